@@ -127,7 +127,7 @@ calls-keep = calls-have (λ c after. IsCluster after) keeps
     keeps c after is grew = elim grew [ inl same ↦ subst IsCluster (sym same) is | inr more ↦ subst IsCluster (sym more.3) (growth-keeps c more.0 more.1 is more.2) ]
 
 -- halls in which nothing has happened
-empty-at : (n m : ℕ) → hall_at (replicate n []) m ≡ []
+pub empty-at : (n m : ℕ) → hall_at (replicate n []) m ≡ []
 empty-at zero m = refl
 empty-at (suc n) zero = refl
 empty-at (suc n) (suc m) = empty-at n m

@@ -14,8 +14,9 @@ use Rattle.spec_hall.specs.Examples.{share}
 use Rattle.spec_hall.specs.Calls.{handed, is_over}
 use Rattle.spec_hall.specs.Legal.{IsBalanceDue, MayBalance, MayStart}
 use Rattle.spec_hall.specs.States.{Candidate, Live, LeaseOut, balanced, lease_of, leases, lives, states}
+use Rattle.spec_hall.specs.Turns.{TakesTurn}
 use Rattle.spec_cluster.specs.Examples.{HasRounds, after_one, after_two, after_three, key, posts, script, slice}
-use Rattle.spec_cluster.specs.Rounds.{IsRound, TakesTurn}
+use Rattle.spec_cluster.specs.Rounds.{IsRound}
 use Rattle.spec_cluster.specs.Run.{posted}
 use Rattle.spec_cluster.specs.Visits.{hall_at}
 

@@ -53,8 +53,15 @@ hall-stays k h none full =
     fresh : is_named k h ≡ false
     fresh = false_from_ne_true (is_named k h) (λ q. not-zero (jobs_of k.tenant (names_of h)) none (key-counts k (names_of h) q))
 
--- the next hall is another one of these
-next-other : (m n : ℕ) → 2 ≤ n → m < n → (m + 1) % n ≢ m
+-- the next hall is one of these
+pub next-within : (c : Cluster) (from : ℕ) → IsCluster c → next_hall from c < length c.halls
+next-within c from is = mod-lt (from + 1) (some (length c.halls) is.few)
+  where
+    some : (n : ℕ) → 2 ≤ n → 0 < n
+    some n low = omega arith
+
+-- and another one
+pub next-other : (m n : ℕ) → 2 ≤ n → m < n → (m + 1) % n ≢ m
 next-other m n few within q = elim (cases_lt (m + 1) n) [ inl inside ↦ one-more m (sym (mod-eq_of_lt inside) ∙ q) | inr last ↦ first m n few (m + 1) (ends m n within last) (ap (λ (x : ℕ). x % n) (ends m n within last) ∙ mod_self n) q ]
   where
     one-more : (a : ℕ) → a + 1 ≡ a → ⊥
@@ -99,12 +106,6 @@ moves-go_on c after k from (Err moving.NoHall) is here call memory = elim call.1
 
     not-over : (n m : ℕ) → n < m → m < n + 1 → ⊥
     not-over n m low high = omega arith
-
-    next-within : (c : Cluster) (from : ℕ) → IsCluster c → next_hall from c < length c.halls
-    next-within c from is = mod-lt (from + 1) (some (length c.halls) is.few)
-      where
-        some : (n : ℕ) → 2 ≤ n → 0 < n
-        some n low = omega arith
 moves-go_on c after k from (Err moving.Same) is here call memory = absurd (next-other from (length c.halls) is.few (home-found k c.halls from here).within (one-less (next_hall from c) call.0 from call.2 (some-same call.0 from (sym call.1 ∙ here))))
   where
     one-less : (n m l : ℕ) → n + 1 ≡ m + 1 → m ≡ l → n ≡ l

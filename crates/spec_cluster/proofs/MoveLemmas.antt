@@ -10,14 +10,14 @@ use Rattle.spec_job.specs.KeyedJob.{Key}
 use Rattle.spec_job.specs.SoloMachine.{Own}
 use Rattle.spec_hall.specs.Events.{Event, Arrive, Leave}
 use Rattle.spec_hall.specs.Legal.{Legal, MayArrive, MayLeave}
-use Rattle.spec_hall.specs.Own.{adds_volume, arrives, is_key, leaves, own}
+use Rattle.spec_hall.specs.Own.{adds_volume, arrives, is_key, leaves, own, brought_by}
 use Rattle.spec_hall.specs.States.{keys_of, leases, titled}
 use Rattle.spec_hall.proofs.KeyLemmas.{filter-absent, filter-there, is_key-Decides, is_key-back, is_key-same, without}
 use Rattle.spec_hall.proofs.MovedLemmas.{volume-joins}
 use Rattle.spec_hall.proofs.PushLemmas.{Legal-push, keys-push, leases-push, own-push}
 use Rattle.spec_hall.proofs.StatesLemmas.{job_of-states}
 use Rattle.spec_cluster.specs.declared.fault.MoveFault.TheVariants as moving
-use Rattle.spec_cluster.specs.Calls.{IsMove, MayTry, brought_from, went}
+use Rattle.spec_cluster.specs.Calls.{IsMove, MayTry, went}
 use Rattle.spec_cluster.specs.Clusters.{Cluster, IsAtHome, IsCluster, IsStay, IsUnknown, done_in, is_named, is_there}
 use Rattle.spec_cluster.specs.Laws.{MoveKeeps}
 use Rattle.spec_cluster.specs.Visits.{Move, Visit, hall_at, moved_to, opened_in, opens, since, stayed, until_leave}
@@ -56,7 +56,7 @@ stay-leaves k halls others before v stay grown same = record {
     more : since others v ≡ since halls v ++ Leave k ∷ []
     more = since-grows halls others v (begins-within k halls before v stay.begins) (Leave k ∷ [], grown)
 
-module _ (c : Cluster) (k : Key) (a b : ℕ) (is : IsCluster c) (home : IsHome k c.halls a) (within : b < length c.halls) (other : b ≢ a) (may : MayArrive (hall_at c.halls b) k (brought_from k (hall_at c.halls a))) where
+module _ (c : Cluster) (k : Key) (a b : ℕ) (is : IsCluster c) (home : IsHome k c.halls a) (within : b < length c.halls) (other : b ≢ a) (may : MayArrive (hall_at c.halls b) k (brought_by k (hall_at c.halls a))) where
   abbrev here : List Event
   here = hall_at c.halls a
 
@@ -68,7 +68,7 @@ module _ (c : Cluster) (k : Key) (a b : ℕ) (is : IsCluster c) (home : IsHome k
   left = here ++ Leave k ∷ []
 
   abbrev come : List Event
-  come = there ++ Arrive k (brought_from k here) ∷ []
+  come = there ++ Arrive k (brought_by k here) ∷ []
 
   abbrev mids : List (List Event)
   mids = slice_set c.halls a left
@@ -94,7 +94,7 @@ module _ (c : Cluster) (k : Key) (a b : ℕ) (is : IsCluster c) (home : IsHome k
   pub there-now : hall_at now b ≡ come
   there-now = get_or-set_same mids b come [] within-mids
 
-  there-mids : hall_at mids b ≡ there
+  pub there-mids : hall_at mids b ≡ there
   there-mids = get_or-set_other c.halls a b left [] other
 
   -- the keys of both
@@ -102,7 +102,7 @@ module _ (c : Cluster) (k : Key) (a b : ℕ) (is : IsCluster c) (home : IsHome k
   left-keys j = ap (list_any (is_key j)) (keys-push here (Leave k))
 
   pub come-keys : (j : Key) → is_there j come ≡ (is_there j there || is_key j k)
-  come-keys j = ap (list_any (is_key j)) (keys-push there (Arrive k (brought_from k here))) ∙ one-more j k (keys_of there)
+  come-keys j = ap (list_any (is_key j)) (keys-push there (Arrive k (brought_by k here))) ∙ one-more j k (keys_of there)
 
   is-mine : (j : Key) → is_key j k ≡ true → j ≡ k
   is-mine j = (is_key-Decides j k).0
@@ -148,22 +148,22 @@ module _ (c : Cluster) (k : Key) (a b : ℕ) (is : IsCluster c) (home : IsHome k
   open-same : (j : Key) (m : ℕ) → list_any (opens j) (hall_at now m) ≡ list_any (opens j) (hall_at c.halls m)
   open-same j = at-now (λ m h. list_any (opens j) h ≡ list_any (opens j) (hall_at c.halls m))
       (list_any-append (opens j) here (Leave k ∷ []) ∙ sym (or-none (list_any (opens j) here)))
-      (list_any-append (opens j) there (Arrive k (brought_from k here) ∷ []) ∙ sym (or-none (list_any (opens j) there)))
+      (list_any-append (opens j) there (Arrive k (brought_by k here) ∷ []) ∙ sym (or-none (list_any (opens j) there)))
       (λ m away far. refl)
 
   opened-still : (j : Key) → opened_in j now ≡ opened_in j c.halls
   opened-still j =
-      opened-same j mids b come (list_any-append (opens j) there (Arrive k (brought_from k here) ∷ []) ∙ (sym (or-none (list_any (opens j) there)) ∙ ap (list_any (opens j)) (sym there-mids)))
+      opened-same j mids b come (list_any-append (opens j) there (Arrive k (brought_by k here) ∷ []) ∙ (sym (or-none (list_any (opens j) there)) ∙ ap (list_any (opens j)) (sym there-mids)))
       ∙ opened-same j c.halls a left (list_any-append (opens j) here (Leave k ∷ []) ∙ sym (or-none (list_any (opens j) here)))
 
   -- each history grows
   grows : AllGrowTo c.halls now
-  grows = at-now (λ m h. GrowsTo (hall_at c.halls m) h) (Leave k ∷ [], refl) (Arrive k (brought_from k here) ∷ [], refl) (λ m away far. ([], sym (append-nil (hall_at c.halls m))))
+  grows = at-now (λ m h. GrowsTo (hall_at c.halls m) h) (Leave k ∷ [], refl) (Arrive k (brought_by k here) ∷ [], refl) (λ m away far. ([], sym (append-nil (hall_at c.halls m))))
 
   pub grew-other : (j : Key) → is_key j k ≡ false → (m : ℕ) → GrewWithout j (hall_at c.halls m) (hall_at now m)
   grew-other j different = at-now (λ m h. GrewWithout j (hall_at c.halls m) h)
       (record { later = Leave k ∷ []; grown = refl; stays = or_from (is_key j k) false different refl; alone = refl })
-      (record { later = Arrive k (brought_from k here) ∷ []; grown = refl; stays = refl; alone = or_from (is_key j k) false different refl })
+      (record { later = Arrive k (brought_by k here) ∷ []; grown = refl; stays = refl; alone = or_from (is_key j k) false different refl })
       (λ m away far. record { later = []; grown = sym (append-nil (hall_at c.halls m)); stays = refl; alone = refl })
 
   abbrev first : ℕ → Visit
@@ -202,7 +202,7 @@ module _ (c : Cluster) (k : Key) (a b : ℕ) (is : IsCluster c) (home : IsHome k
       grown = subst (λ (m : ℕ). hall_at now m ≡ hall_at c.halls m ++ Leave k ∷ []) (sym was.hall) here-now
 
       nothing : since now new ≡ []
-      nothing = ap (drop (length there + 1)) there-now ∙ drop-append-add there (Arrive k (brought_from k here) ∷ []) 1
+      nothing = ap (drop (length there + 1)) there-now ∙ drop-append-add there (Arrive k (brought_by k here) ∷ []) 1
 
       whole : IsWhole k c.halls was.gone was.last
       whole = stay-whole c.workers k c.halls was.gone was.last (is.legal was.last.hall) was.here
@@ -215,7 +215,7 @@ module _ (c : Cluster) (k : Key) (a b : ℕ) (is : IsCluster c) (home : IsHome k
           ∙ (own-push k stay (Leave k) ∙ ap (λ (x : Bool). cond x (adds_volume 0 (own k stay)) (own k stay)) (is_key-same k))
 
       -- what it brings is all that it did
-      brings : brought_from k here ≡ done_in k now (was.gone ++ was.last ∷ [])
+      brings : brought_by k here ≡ done_in k now (was.gone ++ was.last ∷ [])
       brings =
           ap (λ (m : ℕ). adds_volume 0 (own k (hall_at c.halls m))) (sym was.hall)
           ∙ (ap (adds_volume 0) whole.own_is
@@ -243,7 +243,7 @@ module _ (c : Cluster) (k : Key) (a b : ℕ) (is : IsCluster c) (home : IsHome k
       unnamed : (m : ℕ) → is_named j (hall_at now m) ≡ false
       unnamed = at-now (λ m h. is_named j h ≡ false)
           (named-append j here (Leave k ∷ []) ∙ or_from (is_named j here) false (fresh-at j c.halls a was.fresh) refl)
-          (named-append j there (Arrive k (brought_from k here) ∷ []) ∙ or_from (is_named j there) (is_key j k || false) (fresh-at j c.halls b was.fresh) (or_from (is_key j k) false different refl))
+          (named-append j there (Arrive k (brought_by k here) ∷ []) ∙ or_from (is_named j there) (is_key j k || false) (fresh-at j c.halls b was.fresh) (or_from (is_key j k) false different refl))
           (λ m away far. fresh-at j c.halls m was.fresh)
 
   may-leave : MayLeave here k (titled here k)
@@ -260,8 +260,8 @@ module _ (c : Cluster) (k : Key) (a b : ℕ) (is : IsCluster c) (home : IsHome k
         bound = subst (λ (m : ℕ). m ≤ 8) (sym size) is.bound;
         some_worker = is.some_worker;
         worker_bound = is.worker_bound;
-        legal = at-now (λ m h. Legal c.workers h) (Legal-push c.workers here (Leave k) (is.legal a) (titled here k, may-leave)) (Legal-push c.workers there (Arrive k (brought_from k here)) (is.legal b) may) (λ m away far. is.legal m);
-        calm = at-now (λ m h. leases h ≡ []) (leases-push here (Leave k) ∙ is.calm a) (leases-push there (Arrive k (brought_from k here)) ∙ is.calm b) (λ m away far. is.calm m);
+        legal = at-now (λ m h. Legal c.workers h) (Legal-push c.workers here (Leave k) (is.legal a) (titled here k, may-leave)) (Legal-push c.workers there (Arrive k (brought_by k here)) (is.legal b) may) (λ m away far. is.legal m);
+        calm = at-now (λ m h. leases h ≡ []) (leases-push here (Leave k) ∙ is.calm a) (leases-push there (Arrive k (brought_by k here)) ∙ is.calm b) (λ m away far. is.calm m);
         one_home = λ j m n p q. homes-once j m n (there-in j m p) (there-in j n q);
         one_opening = λ j m n p q. is.one_opening j m n (sym (open-same j m) ∙ p) (sym (open-same j n) ∙ q);
         at_home = λ j m q. elim (there-in j m q) [ inl old ↦ other-home j m old.0 old.1 | inr mine ↦ subst (λ (x : Key). IsAtHome after x m) (sym (is-mine j mine.1)) (subst (IsAtHome after k) (sym mine.0) new-home) ];

@@ -8,7 +8,7 @@ use Rattle.spec_job.specs.SoloMachine.{Own, Volume, solo}
 use Rattle.spec_job.proofs.StayLemmas.{push-stays, stays-self}
 use Rattle.spec_hall.specs.Events.{Event, Arrive}
 use Rattle.spec_hall.specs.Legal.{MayArrive}
-use Rattle.spec_hall.specs.Own.{adds_volume, is_key, own}
+use Rattle.spec_hall.specs.Own.{adds_volume, is_key, own, brought_by}
 use Rattle.spec_hall.proofs.IsolationLemmas.{job_answers-stay}
 use Rattle.spec_hall.proofs.KeyLemmas.{is_key-Decides, is_key-same}
 use Rattle.spec_hall.proofs.PushLemmas.{adds_volume-keeps, own-push}
@@ -16,7 +16,7 @@ use Rattle.spec_run.specs.Run.{IsEvident}
 use Rattle.spec_run.proofs.Evidence.{evident_by_law}
 use Rattle.spec_cluster.specs.declared.fault.MoveFault.{MoveFault}
 use Rattle.spec_cluster.specs.declared.fault.MoveFault.TheVariants as moving
-use Rattle.spec_cluster.specs.Calls.{IsMoving, brought_from, went}
+use Rattle.spec_cluster.specs.Calls.{IsMoving, went}
 use Rattle.spec_cluster.specs.Clusters.{Cluster, IsCluster, IsUnknown, home, is_there}
 use Rattle.spec_cluster.specs.Laws.{AllIsEvident, AnswersStay, CallsHave, Grows, HasGrown, KeepsAll, OwnIsAll, grown}
 use Rattle.spec_cluster.specs.Visits.{Visit, all_of, hall_at, opened_in, opens, stayed, until_leave}
@@ -73,13 +73,13 @@ events-stay c n es is g k = by-home c k is (λ os. KeepsAnswers (solo os) (solo 
 volume-stays : (v : ℕ) (es : List Own) → KeepsAnswers (solo es) (solo (adds_volume v es))
 volume-stays v es = adds_volume-keeps (λ os. KeepsAnswers (solo es) (solo os)) v es (stays-self (solo es)) (push-stays es (Volume v))
 
-module _ (c : Cluster) (k : Key) (a b : ℕ) (is : IsCluster c) (at : IsHome k c.halls a) (within : b < length c.halls) (other : b ≢ a) (may : MayArrive (hall_at c.halls b) k (brought_from k (hall_at c.halls a))) where
+module _ (c : Cluster) (k : Key) (a b : ℕ) (is : IsCluster c) (at : IsHome k c.halls a) (within : b < length c.halls) (other : b ≢ a) (may : MayArrive (hall_at c.halls b) k (brought_by k (hall_at c.halls a))) where
   -- the job that moved has in its new hall what it brought
   mover-there : is_there k (hall_at (went k a b c).halls b) ≡ true
   mover-there = ap (is_there k) (there-now c k a b is at within other may) ∙ (come-keys c k a b is at within other may k ∙ or_right (is_there k (hall_at c.halls b)) (is_key k k) (is_key-same k))
 
-  mover-own : own k (hall_at (went k a b c).halls b) ≡ brought_from k (hall_at c.halls a)
-  mover-own = ap (own k) (there-now c k a b is at within other may) ∙ (own-push k (hall_at c.halls b) (Arrive k (brought_from k (hall_at c.halls a))) ∙ ap (λ (x : Bool). cond x (brought_from k (hall_at c.halls a)) (own k (hall_at c.halls b))) (is_key-same k))
+  mover-own : own k (hall_at (went k a b c).halls b) ≡ brought_by k (hall_at c.halls a)
+  mover-own = ap (own k) (there-now c k a b is at within other may) ∙ (own-push k (hall_at c.halls b) (Arrive k (brought_by k (hall_at c.halls a))) ∙ ap (λ (x : Bool). cond x (brought_by k (hall_at c.halls a)) (own k (hall_at c.halls b))) (is_key-same k))
 
   went-stays : KeepsAll c (went k a b c)
   went-stays j = by-home c j is (λ os. KeepsAnswers (solo os) (solo (all_of j after.halls after.moves))) (λ m there. by_key m there (is_key j k) refl) (none-stays (all_of j after.halls after.moves))

@@ -12,8 +12,9 @@ use Rattle.spec_job.specs.SoloMachine.{Own, is_live}
 use Rattle.spec_hall.specs.Calls.{arranges}
 use Rattle.spec_hall.specs.Events.{Event, Open, Revise, Reask, Close, Balance, Start, Finish, Exchange, Leave, Arrive}
 use Rattle.spec_hall.specs.Legal.{jobs_of, tenant_count}
-use Rattle.spec_hall.specs.Own.{is_key, is_text}
+use Rattle.spec_hall.specs.Own.{is_key, is_text, brought_by}
 use Rattle.spec_hall.specs.States.{keys_of, live_of, names_of, titled}
+use Rattle.spec_hall.specs.Turns.{HasWaited, IsSlice, TakesTurn, first_live}
 use Rattle.spec_hall.proofs.KeyLemmas.{is_key-Decides, is_text-Decides}
 use Rattle.spec_run.specs.Complete.{job_events, key_of_job, open_events, script_events, step_events}
 use Rattle.spec_run.proofs.TenantLemmas.{jobs-counted, tenants-named}
@@ -22,10 +23,10 @@ use Rattle.spec_script.specs.Limits.{served}
 use Rattle.spec_script.specs.Script.{ScriptedJob, Scripted}
 use Rattle.spec_script.specs.declared.step.Step.{Step}
 use Rattle.spec_script.specs.declared.step.Step.TheVariants as steps
-use Rattle.spec_cluster.specs.Calls.{brought_from, went}
+use Rattle.spec_cluster.specs.Calls.{went}
 use Rattle.spec_cluster.specs.Clusters.{Cluster, is_named, is_there}
 use Rattle.spec_cluster.specs.Laws.{AllMove, MayAllCome, MovesAreTaken}
-use Rattle.spec_cluster.specs.Rounds.{AllTurn, AreRounds, HasWaited, IsSlice, TakesTurn, carried, first_live, goes, may_come, next_hall}
+use Rattle.spec_cluster.specs.Rounds.{AllTurn, AreRounds, carried, goes, may_come, next_hall}
 use Rattle.spec_cluster.specs.Run.{dealt_from, posted}
 use Rattle.spec_cluster.specs.Visits.{hall_at}
 use Rattle.spec_cluster.proofs.AmongLemmas.{AreAmong, HasRoom, has-room, names-apart}
@@ -98,6 +99,20 @@ arranged-come k (e ∷ es) all =
     let parts = and_parts (arranges e) (list_all arranges es) all in
     or_from (comes k e) (list_any (comes k) es) (arrange-comes k e parts.0) (arranged-come k es parts.1)
 
+-- the first live job of a hall is there
+pub first-key : (h : List Event) (ks : List Key) (k : Key) → option_map (λ l. l.key) (slice_get (map live_of (filter (λ (t : KeyedJob). is_live t.state) (map (titled h) ks))) 0) ≡ Some k → list_any (is_key k) ks ≡ true
+first-key h [] k found = absurd (cc)
+first-key h (x ∷ xs) k found = by_test (is_live (titled h x).state) found (first-key h xs k)
+  where
+    mine : Some x ≡ Some k → list_any (is_key k) (x ∷ xs) ≡ true
+    mine q =
+        let same : x ≡ k = cc in
+        or_left (is_key k x) (list_any (is_key k) xs) ((is_key-Decides k x).1 (sym same))
+
+    by_test : (b : Bool) → option_map (λ l. l.key) (slice_get (map live_of (cond b (titled h x ∷ filter (λ (t : KeyedJob). is_live t.state) (map (titled h) xs)) (filter (λ (t : KeyedJob). is_live t.state) (map (titled h) xs)))) 0) ≡ Some k → (option_map (λ l. l.key) (slice_get (map live_of (filter (λ (t : KeyedJob). is_live t.state) (map (titled h) xs))) 0) ≡ Some k → list_any (is_key k) xs ≡ true) → list_any (is_key k) (x ∷ xs) ≡ true
+    by_test true q rest = mine q
+    by_test false q rest = or_right (is_key k x) (list_any (is_key k) xs) (rest q)
+
 module _ (s : Scripted) where
   -- only jobs of the script came to a hall
   abbrev AreScripted : List Event → Type 0
@@ -145,19 +160,6 @@ module _ (s : Scripted) where
   AllChosen (None ∷ rest) = AllChosen rest
   AllChosen (Some k ∷ rest) = (list_any (is_key k) (keys_in s) ≡ true) × AllChosen rest
 
-  first-key : (h : List Event) (ks : List Key) (k : Key) → option_map (λ l. l.key) (slice_get (map live_of (filter (λ (t : KeyedJob). is_live t.state) (map (titled h) ks))) 0) ≡ Some k → list_any (is_key k) ks ≡ true
-  first-key h [] k found = absurd (cc)
-  first-key h (x ∷ xs) k found = by_test (is_live (titled h x).state) found (first-key h xs k)
-    where
-      mine : Some x ≡ Some k → list_any (is_key k) (x ∷ xs) ≡ true
-      mine q =
-          let same : x ≡ k = cc in
-          or_left (is_key k x) (list_any (is_key k) xs) ((is_key-Decides k x).1 (sym same))
-
-      by_test : (b : Bool) → option_map (λ l. l.key) (slice_get (map live_of (cond b (titled h x ∷ filter (λ (t : KeyedJob). is_live t.state) (map (titled h) xs)) (filter (λ (t : KeyedJob). is_live t.state) (map (titled h) xs)))) 0) ≡ Some k → (option_map (λ l. l.key) (slice_get (map live_of (filter (λ (t : KeyedJob). is_live t.state) (map (titled h) xs))) 0) ≡ Some k → list_any (is_key k) xs ≡ true) → list_any (is_key k) (x ∷ xs) ≡ true
-      by_test true q rest = mine q
-      by_test false q rest = or_right (is_key k x) (list_any (is_key k) xs) (rest q)
-
   first-scripted : (h : List Event) (k : Key) → AreScripted h → first_live h ≡ Some k → list_any (is_key k) (keys_in s) ≡ true
   first-scripted h k among found = among k (named-by k h (is_there k h) (unnamed-there k h) (first-key h (keys_of h) k found))
 
@@ -182,8 +184,8 @@ module _ (s : Scripted) where
 
   went-scripted : (c : Cluster) (k : Key) (from to : ℕ) → AllScripted c.halls → list_any (is_key k) (keys_in s) ≡ true → AllScripted (went k from to c).halls
   went-scripted c k from to among mine =
-      set-scripted (slice_set c.halls from (hall_at c.halls from ++ Leave k ∷ [])) to (hall_at c.halls to ++ Arrive k (brought_from k (hall_at c.halls from)) ∷ [])
-      (arrive-scripted (hall_at c.halls to) k (brought_from k (hall_at c.halls from)) (among to) mine)
+      set-scripted (slice_set c.halls from (hall_at c.halls from ++ Leave k ∷ [])) to (hall_at c.halls to ++ Arrive k (brought_by k (hall_at c.halls from)) ∷ [])
+      (arrive-scripted (hall_at c.halls to) k (brought_by k (hall_at c.halls from)) (among to) mine)
       (set-scripted c.halls from (hall_at c.halls from ++ Leave k ∷ []) (quiet-scripted (hall_at c.halls from) (Leave k ∷ []) (λ j. refl) (among from)) among)
 
   -- so each may come
@@ -226,7 +228,7 @@ opens-come : (k : Key) (js : List ScriptedJob) → list_any (comes k) (open_even
 opens-come k [] = refl
 opens-come k (j ∷ js) = ap (λ (b : Bool). is_key k (key_of_job j) || b) (opens-come k js)
 
-script-named : (k : Key) (s : Scripted) → is_named k (script_events s) ≡ list_any (is_key k) (keys_in s)
+pub script-named : (k : Key) (s : Scripted) → is_named k (script_events s) ≡ list_any (is_key k) (keys_in s)
 script-named k s =
     named-append k [] (script_events s)
     ∙ (list_any-append (comes k) (open_events s.jobs) (flat_map job_events s.jobs)

@@ -9,10 +9,10 @@ use Rattle.spec_hall.specs.Calls.{Idle, Leased, Picks, arranges}
 use Rattle.spec_hall.specs.Events.{Event, Open, Revise, Reask, Close, Balance, Start, Finish, Exchange, Leave, Arrive, moves}
 use Rattle.spec_hall.specs.Legal.{Legal}
 use Rattle.spec_hall.specs.States.{LeaseOut, lease_of, leases, leases_step}
+use Rattle.spec_hall.specs.Turns.{HasWaited, IsSlice, TakesTurn}
 use Rattle.spec_hall.proofs.CallLemmas.{call-is_legal}
 use Rattle.spec_hall.proofs.PushLemmas.{Legal-push, leases-push}
 use Rattle.spec_cluster.specs.Laws.{TurnGrows}
-use Rattle.spec_cluster.specs.Rounds.{HasWaited, IsSlice, TakesTurn}
 use Rattle.spec_cluster.specs.Visits.{hall_at, opens}
 use Rattle.spec_cluster.proofs.NameLemmas.{open-comes}
 use Rattle.spec_cluster.proofs.TakenLemmas.{arranged-come}
@@ -55,13 +55,13 @@ arranged-leases out (e ∷ es) all =
     ap (λ (o : List LeaseOut). fold leases_step o es) (arrange-leases out e parts.0) ∙ arranged-leases out es parts.1
 
 -- a history has grown so
-record IsTurned (w : ℕ) (past now : List Event) : Type 0 where
-  events : List Event
-  grown : now ≡ past ++ events
-  legal : Legal w now
-  calm : leases now ≡ []
-  still : list_any moves events ≡ false
-  shut : (k : Key) → list_any (opens k) events ≡ false
+pub record IsTurned (w : ℕ) (past now : List Event) : Type 0 where
+  pub events : List Event
+  pub grown : now ≡ past ++ events
+  pub legal : Legal w now
+  pub calm : leases now ≡ []
+  pub still : list_any moves events ≡ false
+  pub shut : (k : Key) → list_any (opens k) events ≡ false
 
 turned-none : (w : ℕ) (past : List Event) → Legal w past → leases past ≡ [] → IsTurned w past past
 turned-none w past legal calm = record { events = []; grown = sym (append-nil past); legal = legal; calm = calm; still = refl; shut = λ k. refl }
@@ -90,7 +90,7 @@ module _ (w : ℕ) (some : 1 ≤ w) (most : w ≤ 64) where
     | inr done ↦ subst (IsTurned w past) (sym (done.grown ∙ (ap (λ (es : List Event). past ++ es) done.call.1 ∙ append-nil past))) (turned-none w past legal calm)
   ]
 
-  slice-turned : (past now : List Event) → IsSlice w past now → Legal w past → leases past ≡ [] → IsTurned w past now
+  pub slice-turned : (past now : List Event) → IsSlice w past now → Legal w past → leases past ≡ [] → IsTurned w past now
   slice-turned past now slice legal calm = record {
     events = es ++ ended ∷ [];
     grown = slice.grown ∙ (ap (λ (h : List Event). h ++ ended ∷ []) slice.picked.grown ∙ append_assoc past es (ended ∷ []));

@@ -14,11 +14,11 @@ use Rattle.mal_base.specs.declared.hall_fault.ReplyFault.TheVariants as asking
 use Rattle.mal_revision.specs.Posted.{Posted}
 use Rattle.spec_job.specs.KeyedJob.{Key}
 use Rattle.spec_job.specs.Replies.{reply}
-use Rattle.spec_job.specs.SoloMachine.{Own, solo}
+use Rattle.spec_job.specs.SoloMachine.{solo}
 use Rattle.spec_hall.specs.Calls.{Call, AnswerTo, HasCalled, Opens, Revises, Reasks, Closes}
 use Rattle.spec_hall.specs.Events.{Event, Leave, Arrive}
 use Rattle.spec_hall.specs.Legal.{MayArrive, jobs_of, tenant_count}
-use Rattle.spec_hall.specs.Own.{own, adds_volume}
+use Rattle.spec_hall.specs.Own.{brought_by}
 use Rattle.spec_hall.specs.States.{names_of}
 use Rattle.spec_cluster.specs.declared.fault.MoveFault.{MoveFault}
 use Rattle.spec_cluster.specs.declared.fault.MoveFault.TheVariants as moving
@@ -69,17 +69,13 @@ IsReply c k r (Ok text) = (is_some (home k c.halls) ≡ true) × (text ≡ reply
 IsReply c k r (Err asking.NoJob) = home k c.halls ≡ None
 IsReply c k r (Err asking.OutOfMemory) = is_some (home k c.halls) ≡ true
 
--- what a job brings from a hall: all that it did there, and no volume
-abbrev pub brought_from : Key → List Event → List Own
-brought_from k h = adds_volume 0 (own k h)
-
 -- the cluster after a job went from one hall to another
 abbrev pub went : Key → ℕ → ℕ → Cluster → Cluster
 went k from to c =
     let here = hall_at c.halls from in
     let there = hall_at c.halls to in
     record c {
-      halls = slice_set (slice_set c.halls from (here ++ Leave k ∷ [])) to (there ++ Arrive k (brought_from k here) ∷ []);
+      halls = slice_set (slice_set c.halls from (here ++ Leave k ∷ [])) to (there ++ Arrive k (brought_by k here) ∷ []);
       moves = c.moves ++ record { key = k; visit = record { hall = to; from = length there + 1 } } ∷ [];
     }
 
@@ -93,13 +89,13 @@ pub record MayTry (c : Cluster) (k : Key) (to from : ℕ) : Type 0 where
 -- a job goes from the hall at a place to that of a number
 pub record IsMove (c : Cluster) (k : Key) (to from : ℕ) (after : Cluster) : Type 0 where
   pub may : MayTry c k to from
-  pub arrives : MayArrive (hall_at c.halls (to - 1)) k (brought_from k (hall_at c.halls from))
+  pub arrives : MayArrive (hall_at c.halls (to - 1)) k (brought_by k (hall_at c.halls from))
   pub went_on : after ≡ went k from (to - 1) c
 
 -- a job may go there, as far as the halls are concerned
 pub record MayMove (c : Cluster) (k : Key) (to from : ℕ) : Type 0 where
   pub may : MayTry c k to from
-  pub arrives : MayArrive (hall_at c.halls (to - 1)) k (brought_from k (hall_at c.halls from))
+  pub arrives : MayArrive (hall_at c.halls (to - 1)) k (brought_by k (hall_at c.halls from))
 
 -- its name is new there, and its tenant has 64 jobs there
 pub record IsTenantFull (c : Cluster) (k : Key) (to from : ℕ) : Type 0 where

@@ -1,5 +1,5 @@
 -- What holds of clusters, in the form in which the law functions state it.
-use Rattle.std.specs.Prelude.{◌≡◌, ◌≢◌, ◌⊎◌, ℕ, ◌+◌, ◌<◌, ◌≤◌, true, false, List, [], ◌∷◌, ◌++◌, length, map, Option, Some, None, Result, Err}
+use Rattle.std.specs.Prelude.{◌≡◌, ◌≢◌, ◌⊎◌, ℕ, ◌+◌, ◌<◌, ◌≤◌, true, false, List, [], ◌∷◌, ◌++◌, length, map, slice_get, Option, Some, None, is_some, Result, Err}
 use Rattle.std.specs.List.{list_all, list_any}
 use Rattle.mal_base.specs.Asks.{Terms, Weighed}
 use Rattle.mal_base.specs.declared.hall_fault.OpenFault.{OpenFault}
@@ -17,16 +17,18 @@ use Rattle.spec_hall.specs.Laws.{AsksForOne}
 use Rattle.spec_hall.specs.Legal.{Legal}
 use Rattle.spec_hall.specs.Own.{own}
 use Rattle.spec_hall.specs.States.{leases}
-use Rattle.spec_run.specs.Run.{IsEvident}
+use Rattle.spec_hall.specs.Turns.{TakesTurn, first_live}
+use Rattle.spec_run.specs.Complete.{key_of_job}
+use Rattle.spec_run.specs.Run.{IsEvident, IsRun, job_replies}
 use Rattle.spec_script.specs.Formed.{IsScript}
 use Rattle.spec_script.specs.Limits.{served}
-use Rattle.spec_script.specs.Script.{Scripted}
+use Rattle.spec_script.specs.Script.{ScriptedJob, Scripted}
 use Rattle.spec_cluster.specs.declared.fault.MoveFault.{MoveFault}
 use Rattle.spec_cluster.specs.declared.fault.MoveFault.TheVariants as moving
 use Rattle.spec_cluster.specs.Calls.{IsOpening, IsRevising, IsReasking, IsClosing, IsMoving, went}
 use Rattle.spec_cluster.specs.Clusters.{Cluster, IsCluster, new_cluster, with_hall, is_there, is_had, home}
-use Rattle.spec_cluster.specs.Rounds.{AreRounds, TakesTurn, first_live, goes, may_come, next_hall}
-use Rattle.spec_cluster.specs.Run.{posted}
+use Rattle.spec_cluster.specs.Rounds.{AreRounds, IsRound, goes, is_live, left_over, may_come, next_hall}
+use Rattle.spec_cluster.specs.Run.{IsClusterRun, dealt_from, is_for_one, moved_replies, posted}
 use Rattle.spec_cluster.specs.Visits.{hall_at, opens, all_of}
 
 -- a hall's own events of a job that is there are all that the job did
@@ -114,6 +116,29 @@ MovesGoOn =
     (c after : Cluster) (k : Key) (from : ℕ) (answer : Result (Unit {0}) MoveFault) → IsCluster c → home k c.halls ≡ Some from
     → IsMoving c k (next_hall from c + 1) answer after → answer ≢ Err moving.OutOfMemory → after ≡ goes (Some k) from c
 
+-- the jobs of a script that a hall gets are a script
+abbrev pub DealtIsScript : Type 0
+DealtIsScript = (halls n : ℕ) (s : Scripted) → IsScript served s → IsScript served (record { jobs = dealt_from halls n 0 s.jobs })
+
+-- halls that got their jobs are a cluster
+abbrev pub PostedIsCluster : Type 0
+PostedIsCluster = (halls workers : ℕ) (s : Scripted) → 2 ≤ halls → halls ≤ 8 → 1 ≤ workers → workers ≤ 64 → IsScript served s → IsCluster (posted halls workers s)
+
+-- after any rounds some hall has each job of the script
+abbrev pub JobsAreThere : Type 0
+JobsAreThere =
+    (halls workers every i : ℕ) (s : Scripted) (rounds : List Cluster) (end : Cluster) (j : ScriptedJob) → IsScript served s
+    → AreRounds every (posted halls workers s) rounds end → IsCluster end → slice_get s.jobs i ≡ Some j → is_some (home (key_of_job j) end.halls) ≡ true
+
+-- a round keeps what holds of a cluster, and so do rounds one behind the other
+pub record RoundsKeep : Type 0 where
+  pub round : (every : ℕ) (c after : Cluster) → IsCluster c → IsRound every c after → IsCluster after
+  pub rounds : (every : ℕ) (c end : Cluster) (rounds : List Cluster) → IsCluster c → AreRounds every c rounds end → IsCluster end
+
+-- a round in which a job is live leaves the jobs less to run
+abbrev pub RoundsEnd : Type 0
+RoundsEnd = (every : ℕ) (c after : Cluster) → 1 ≤ every → IsCluster c → is_live c ≡ true → IsRound every c after → left_over after < left_over c
+
 -- each chosen job may come to the next hall when it goes on; the first was chosen in the hall at this place
 abbrev pub MayAllCome : List (Option Key) → ℕ → Cluster → Type 0
 MayAllCome [] from c = Unit {0}
@@ -128,3 +153,11 @@ AllMove every now (next ∷ rest) end are = MayAllCome (map first_live are.1.mid
 -- in the rounds over a script no move is refused
 abbrev pub MovesAreTaken : Type 0
 MovesAreTaken = (halls workers every : ℕ) (s : Scripted) (rounds : List Cluster) (end : Cluster) → IsScript served s → (are : AreRounds every (posted halls workers s) rounds end) → AllMove every (posted halls workers s) rounds end are
+
+-- a job that always asks for one worker is replied to in a cluster as in one hall that ran the same script, where no start
+-- of it wanted for memory
+abbrev pub SinglesReplyAlike : Type 0
+SinglesReplyAlike =
+    (halls workers every others i : ℕ) (s : Scripted) (rounds : List Cluster) (end : Cluster) (log out : List ℕ) (history : List Event) (log_other out_other : List ℕ) (j : ScriptedJob)
+    → IsScript served s → IsClusterRun halls workers every s rounds end log out → IsRun others s history log_other out_other → slice_get s.jobs i ≡ Some j → is_for_one j ≡ true
+    → list_all is_fed (all_of (key_of_job j) end.halls end.moves) ≡ true → list_all is_fed (own (key_of_job j) history) ≡ true → moved_replies end j ≡ job_replies history j

@@ -1,38 +1,15 @@
 -- Rounds of a cluster: each hall works for some slices, and then the first live job of each goes on to the next hall.
-use Rattle.std.specs.Prelude.{◌≡◌, ◌⊎◌, ℕ, zero, suc, ◌+◌, ◌%◌, Bool, true, false, ◌&&◌, ◌||◌, ◌==◌, not, nat_lt, List, [], ◌∷◌, ◌++◌, length, map, slice_get, sum_by, Option, Some, None, Ok, if◌then◌else◌}
+use Rattle.std.specs.Prelude.{◌≡◌, ℕ, ◌+◌, ◌%◌, Bool, true, false, ◌&&◌, ◌||◌, ◌==◌, not, nat_lt, List, [], ◌∷◌, ◌++◌, length, map, sum_by, Option, Some, None, if◌then◌else◌}
 use Rattle.std.specs.List.{list_any}
-use Rattle.std.specs.Option.{option_map}
-use Rattle.mal_base.specs.declared.verdict.Outcome.{Outcome}
 use Rattle.spec_job.specs.KeyedJob.{Key}
-use Rattle.spec_hall.specs.Calls.{HasCalled, Handed, Picks, Leased, Idle, AllDone}
-use Rattle.spec_hall.specs.Driven.{was_lost}
-use Rattle.spec_hall.specs.Events.{Event, Finish}
+use Rattle.spec_hall.specs.Events.{Event}
 use Rattle.spec_hall.specs.Legal.{jobs_of, tenant_count}
 use Rattle.spec_hall.specs.Measure.{left_among}
-use Rattle.spec_hall.specs.States.{LeaseOut, lease_of, leases, lives, names_of, states}
+use Rattle.spec_hall.specs.States.{lives, names_of, states}
+use Rattle.spec_hall.specs.Turns.{TakesTurn, first_live}
 use Rattle.spec_cluster.specs.Calls.{went}
 use Rattle.spec_cluster.specs.Clusters.{Cluster, is_named}
 use Rattle.spec_cluster.specs.Visits.{Move, hall_at}
-
--- the first worker of a hall picks, works its lease off and gives it back
-pub record IsSlice (workers : ℕ) (past now : List Event) : Type 0 where
-  pub lease : Handed
-  pub mid : List Event
-  pub picked : HasCalled workers past (Picks 1) (Ok (Leased lease)) mid
-  pub out : LeaseOut
-  pub is_out : lease_of 1 (leases mid) ≡ Some out
-  pub outcome : Outcome
-  pub came : was_lost outcome ≡ false
-  pub grown : now ≡ mid ++ Finish out.key out.index 1 outcome ∷ []
-
--- it picks and gets no lease
-abbrev pub HasWaited : ℕ → List Event → List Event → Type 0
-HasWaited workers past now = HasCalled workers past (Picks 1) (Ok Idle) now ⊎ HasCalled workers past (Picks 1) (Ok AllDone) now
-
--- a hall's turn of so many slices, which ends before where the worker gets no lease
-abbrev pub TakesTurn : ℕ → ℕ → List Event → List Event → Type 0
-TakesTurn workers zero past now = now ≡ past
-TakesTurn workers (suc n) past now = HasWaited workers past now ⊎ ((mid : List Event) × IsSlice workers past mid × TakesTurn workers n mid now)
 
 -- each hall takes its turn
 abbrev pub AllTurn : ℕ → ℕ → List (List Event) → List (List Event) → Type 0
@@ -40,10 +17,6 @@ AllTurn workers n [] [] = Unit {0}
 AllTurn workers n [] (now ∷ nows) = ⊥
 AllTurn workers n (past ∷ pasts) [] = ⊥
 AllTurn workers n (past ∷ pasts) (now ∷ nows) = TakesTurn workers n past now × AllTurn workers n pasts nows
-
--- the first live job of a hall
-abbrev pub first_live : List Event → Option Key
-first_live h = option_map (λ l. l.key) (slice_get (lives (states h)) 0)
 
 -- whether a job may come to a hall: its name was there, or there is room for one more
 abbrev pub may_come : Key → List Event → Bool

@@ -1,11 +1,14 @@
 -- A script that is run in a cluster.
-use Rattle.std.specs.Prelude.{◌≡◌, ℕ, ◌+◌, ◌%◌, ◌==◌, List, [], ◌∷◌, ◌++◌, map, flat_map, if◌then◌else◌}
+use Rattle.std.specs.Prelude.{◌≡◌, ℕ, ◌+◌, ◌%◌, Bool, true, ◌&&◌, ◌==◌, List, [], ◌∷◌, ◌++◌, map, flat_map, if◌then◌else◌}
+use Rattle.std.specs.List.{list_all}
 use Rattle.mal_history.specs.Text.{history_text}
 use Rattle.spec_node.specs.Load.{counted}
 use Rattle.spec_job.specs.KeyedJob.{Key}
 use Rattle.spec_job.specs.SoloMachine.{solo}
 use Rattle.spec_hall.specs.Events.{bare}
 use Rattle.spec_script.specs.Script.{ScriptedJob, Scripted, revisions}
+use Rattle.spec_script.specs.declared.step.Step.{Step}
+use Rattle.spec_script.specs.declared.step.Step.TheVariants as steps
 use Rattle.spec_run.specs.Complete.{key_of_job, script_events}
 use Rattle.spec_run.specs.Run.{IsEvident, replies_from}
 use Rattle.spec_cluster.specs.Clusters.{Cluster, IsCluster}
@@ -46,3 +49,12 @@ pub record IsClusterRun (halls workers every : ℕ) (s : Scripted) (rounds : Lis
   pub log_text : log ≡ histories_text end
   pub out_text : out ≡ cluster_replies s end
   pub evident : (k : Key) → IsEvident (all_of k end.halls end.moves)
+
+-- whether a step leaves a job's demand at 1
+abbrev pub step_for_one : Step → Bool
+step_for_one (steps.Revise r) = true
+step_for_one (steps.Reask w) = w.demand == 1
+
+-- whether a job always asks for one worker
+abbrev pub is_for_one : ScriptedJob → Bool
+is_for_one j = (j.ask.demand == 1) && list_all step_for_one j.steps

@@ -4,7 +4,7 @@
 
 mod fault;
 
-ghost use Rattle.spec_cluster.specs.{Examples.{HasRounds}, Laws.{AllIsEvident, AnswersStay, CallsGrow, CallsKeep, GrowthKeeps, MoveKeeps, MovesAreTaken, MovesGoOn, NewIsCluster, OwnIsAll, SinglesAgree, TurnGrows}};
+ghost use Rattle.spec_cluster.specs.{Examples.{HasRounds}, Laws.{AllIsEvident, AnswersStay, CallsGrow, CallsKeep, DealtIsScript, GrowthKeeps, JobsAreThere, MoveKeeps, MovesAreTaken, MovesGoOn, NewIsCluster, OwnIsAll, PostedIsCluster, RoundsEnd, RoundsKeep, SinglesAgree, SinglesReplyAlike, TurnGrows}};
 
 pub use fault::MoveFault;
 
@@ -60,9 +60,35 @@ pub fn moves_go_on()
     ensures { MovesGoOn }
 {}
 
+/// Each hall gets a script of its own, and halls that got all that these post are a cluster.
+pub fn posted_is_cluster()
+    ensures scripts { DealtIsScript }
+    ensures cluster { PostedIsCluster }
+{}
+
+/// After any rounds some hall has each job of the script, so no reply is wanting for a job.
+pub fn jobs_are_there()
+    ensures { JobsAreThere }
+{}
+
+/// A round keeps what holds of a cluster, and so do rounds one behind the other.
+pub fn rounds_keep()
+    ensures { RoundsKeep }
+{}
+
+/// A round in which a job is live leaves the jobs less to run, so rounds end.
+pub fn rounds_end()
+    ensures { RoundsEnd }
+{}
+
 /// In the rounds over a script no move is refused: each job that was chosen may come to the next hall when it goes on.
 pub fn moves_are_taken()
     ensures { MovesAreTaken }
+{}
+
+/// A job of a script that always asks for one worker is replied to in a cluster as in one hall that ran the same script.
+pub fn singles_reply_alike()
+    ensures { SinglesReplyAlike }
 {}
 
 /// A worked example of rounds: a job of three revisions moves twice, and its machine is run on all that it did.
