@@ -14,3 +14,4 @@ mod KeptLemmas
 mod PartLemmas
 mod FinishLemmas
 mod StartLemmas
+mod LentLemmas

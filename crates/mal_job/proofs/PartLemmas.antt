@@ -63,7 +63,7 @@ pub starts-same : (ps : List PlaceView) (i : ℕ) (d p : PlaceView) → i < leng
 starts-same ps i d p low e = ap (λ (n : ℕ). map (λ (x : PlaceView). x.journal.start) (slice_set ps i p) ++ replicate (64 - n) 0) (set-length ps i p) ∙ same-front ps (replicate (64 - length ps) 0) i d p low e
 
 -- the journal at an index
-journal-parts : (j : Journaled) (job profile index start : ℕ) (entries : List JournalEntry) → job ≡ j.job → profile ≡ j.profile → index ≡ j.index → start ≡ j.start → entries ≡ j.entries → record { job = job; profile = profile; index = index; start = start; entries = entries } ≡ j
+pub journal-parts : (j : Journaled) (job profile index start : ℕ) (entries : List JournalEntry) → job ≡ j.job → profile ≡ j.profile → index ≡ j.index → start ≡ j.start → entries ≡ j.entries → record { job = job; profile = profile; index = index; start = start; entries = entries } ≡ j
 journal-parts j job profile index start entries a p b c d = rw (a, p, b, c, d) refl
 
 pub journal-same : (tenant job : List ℕ) (q : Parts) (i : ℕ) → i < length q.tree.places → IsTree q.tree → q.tree.profile ≡ q.asked.ask.profile → journal_at (viewed tenant job q) i ≡ (placed q.tree i).journal

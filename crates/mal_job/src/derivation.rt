@@ -1,6 +1,6 @@
 //! The log of a job.
 
-ghost use Rattle.std.specs.Prelude.{◌≡◌, ◌+◌, ◌≤◌, [], ◌∷◌, ◌++◌, OnOk};
+ghost use Rattle.std.specs.Prelude.{◌≡◌, ◌+◌, ◌<◌, ◌≤◌, [], ◌∷◌, ◌++◌, length, slice_get, Some, OnOk};
 ghost use Rattle.spec_job.specs.SoloMachine.{first_empty};
 ghost use Rattle.mal_job.specs.Viewed.{MayAppend};
 
@@ -45,6 +45,21 @@ impl Derivation {
         ensures { result.now.lines ≡ self.now.lines }
     {
         &self.log
+    }
+
+    /// The number of slices.
+    pub fn slice_count(&self) -> usize
+        ensures { result ≡ length self.now.slices }
+    {
+        self.log.part_count()
+    }
+
+    /// The lines of a slice, and whether it answered a revision, the slices counted from 0.
+    pub fn slice(&self, n: usize) -> (&Lines, bool)
+        requires { n < length self.now.slices }
+        ensures { slice_get self.now.slices n ≡ Some (record { lines = result.0.now.lines; ends = result.1 }) }
+    {
+        self.log.part(n)
     }
 
     /// The number of the first empty clause.

@@ -77,6 +77,36 @@ pub fn finish_starved(
     ensures kept { IsTree tree.new }
 {
     let revision = tree.come_home(index, back.into_kept());
+    count_starved(questions, tree, log, revision);
+}
+
+/// Ends a start that wanted for memory: the node is gone, and unless the revision of the start has its answer, the
+/// start is counted. Takes no memory.
+pub fn finish_gone(questions: &mut Questions, tree: &mut Tree, log: &Derivation, index: u32)
+    requires out { is_some (placed tree.old index).out ≡ true }
+    requires live { length questions.old.answers ≤ revision_of (placed tree.old index).out
+        → length questions.old.answers < length questions.old.revisions }
+    ensures tree { tree.new ≡ with_placed tree.old index (came_home (placed tree.old index)) }
+    ensures questions { questions.new
+        ≡ settled_with (first_empty log.now.lines)
+        (starved_by (revision_of (placed tree.old index).out) questions.old) }
+    ensures asked { IsAsked questions.new }
+    ensures kept { IsTree tree.new }
+{
+    let revision = tree.revision(index);
+    tree.lose(index);
+    count_starved(questions, tree, log, revision);
+}
+
+/// Counts a start for this revision that wanted for memory, unless the revision has its answer. Takes no memory.
+fn count_starved(questions: &mut Questions, tree: &mut Tree, log: &Derivation, revision: usize)
+    requires { length questions.old.answers ≤ revision
+        → length questions.old.answers < length questions.old.revisions }
+    ensures tree { tree.new ≡ tree.old }
+    ensures questions { questions.new
+        ≡ settled_with (first_empty log.now.lines) (starved_by revision questions.old) }
+    ensures asked { IsAsked questions.new }
+{
     if questions.answers().len() <= revision {
         questions.starve();
     }

@@ -1,6 +1,6 @@
 //! A job: its machine, which only takes events.
 
-ghost use Rattle.std.specs.Prelude.{◌≡◌, ◌↔◌, ◌+◌, ◌-◌, ◌<◌, ◌≤◌, ◌^◌, true, length, is_some, IsTrue, Some, None, OnOk, OnErr, IfOk};
+ghost use Rattle.std.specs.Prelude.{◌≡◌, ◌↔◌, ◌+◌, ◌-◌, ◌<◌, ◌≤◌, ◌^◌, ◌==◌, not, true, length, slice_get, is_some, IsTrue, Some, None, OnOk, OnErr, IfOk};
 ghost use Rattle.std.specs.Option.{option_copied};
 ghost use Rattle.mal_base.specs.declared.verdict.Outcome.TheVariants.{Ran, Starved, Lost};
 ghost use Rattle.spec_job.specs.{SoloMachine.{Opened, Revised, Reasked, Closed, Volume, Finished, Exchanged, unopened, solo_step, is_live, startable, is_exchange_due, place_at, clauses_in, literals_in}, Viewed.{unstarted, and_own, and_start, journal_at, IsLeaseOf, IsBack}, Proofs.{failed, proof_lines}, Replies.{body_by}};
@@ -10,12 +10,13 @@ ghost use Rattle.mal_report.specs.Told.{body_of};
 ghost use Rattle.mal_job.specs.{Among.{among}, Finishing.{outcome_of, MayFinish, MayFollow}, Replying.{Tells, TellsReply}, Viewed.{shared}};
 
 use crate::derivation::Derivation;
-use crate::finishing::{finish_lost, finish_run, finish_starved, give_up};
+use crate::finishing::{finish_gone, finish_lost, finish_run, finish_starved, give_up};
 use crate::loading::{count_clauses, missing_loads};
 use crate::questions::{Questions, answer_of};
 use crate::told::{answer_at, copied, last_lits, negations, revision_at};
 use crate::tree::Tree;
 use mal_base::{Answer, Ask, ClauseId, Lines, Name, Outcome, Weight};
+use mal_learn::Scratch;
 use mal_proof::renumber;
 use mal_report::{Told, reply};
 use mal_revision::Revision;
@@ -232,6 +233,22 @@ impl Job {
         Ok(Told::Proof { failed, lines })
     }
 
+    /// The number of slices that were run.
+    pub fn slice_count(&self) -> usize
+        ensures { result ≡ length self.now.titled.state.slices }
+    {
+        self.log.slice_count()
+    }
+
+    /// The lines that a slice logged, and whether its verdict answered a revision, the slices counted from 0.
+    pub fn slice(&self, n: usize) -> (&Lines, bool)
+        requires { n < length self.now.titled.state.slices }
+        ensures { slice_get self.now.titled.state.slices n
+            ≡ Some (record { lines = result.0.now.lines; ends = result.1 }) }
+    {
+        self.log.slice(n)
+    }
+
     /// Posts the job's next revision, and makes room for its answer. It is answered at once where the log holds an
     /// empty clause. After want of memory the job is as before.
     pub fn revise(&mut self, revision: Revision) -> Result<(), AllocError>
@@ -283,6 +300,23 @@ impl Job {
         ensures { result ≡ is_some (place_at self.now.titled.state index).out }
     {
         self.tree.is_out(index)
+    }
+
+    /// Whether the node of this index (0 to 63) has run.
+    pub fn has_run(&self, index: u32) -> bool
+        requires { index ≤ 63 }
+        ensures { result ≡ not (length (place_at self.now.titled.state index).entries == 0) }
+    {
+        self.tree.has_run(index)
+    }
+
+    /// The bytes of the image of the node of this index (0 to 63), which is not out. One that is gone is rebuilt.
+    pub fn image(&self, index: u32, scratch: &mut Scratch) -> Result<Vec<u8>, AllocError>
+        requires index { index ≤ 63 }
+        requires home { (place_at self.now.titled.state index).out ≡ None }
+        ensures { IfOk result (λ v. IsFrozen v.items (journal_at self.now index)) }
+    {
+        self.tree.image(index, scratch)
     }
 
     /// Whether the node of this index (0 to 63) may start.
@@ -362,6 +396,14 @@ impl Job {
             answer,
         );
         Ok(())
+    }
+
+    /// Ends the start that is out at this index as one that wanted for memory. The node is gone. Takes no memory.
+    pub fn starve(&mut self, index: u32)
+        requires { is_some (place_at self.old.titled.state index).out ≡ true }
+        ensures { self.new ≡ and_own self.old (Finished index Starved) }
+    {
+        finish_gone(&mut self.questions, &mut self.tree, &self.log, index);
     }
 
     /// Puts the node of this index, where it is not out, where its journal is, from the bytes of its image, so that it

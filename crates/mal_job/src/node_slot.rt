@@ -1,6 +1,6 @@
 //! A place of a job's tree: a node at home, gone, or out.
 
-ghost use Rattle.std.specs.Prelude.{◌≡◌, ◌↔◌, ◌+◌, ◌≤◌, IsTrue, is_some, true, None, IfOk, OnOk, OnErr};
+ghost use Rattle.std.specs.Prelude.{◌≡◌, ◌↔◌, ◌+◌, ◌≤◌, ◌==◌, not, length, IsTrue, is_some, true, None, IfOk, OnOk, OnErr};
 ghost use Rattle.std.specs.Option.{option_map};
 ghost use Rattle.spec_job.specs.Journaled.{replayed, started, and_entries};
 ghost use Rattle.mal_suspend.specs.{Freezing.{IsFrozen}, Kept.{journal_of}, Replaying.{MayAllReplay}, Starting.{shared_loads, shared_imports, start_entries}};
@@ -8,8 +8,9 @@ ghost use Rattle.mal_job.specs.Placing.{fresh_place, sent, ran_home, came_home, 
 
 use mal_base::Outcome;
 use mal_buffer::Buffer;
+use mal_learn::Scratch;
 use mal_revision::Revision;
-use mal_suspend::{Done, FROZEN_BYTES, Frozen, Journal, Kept, Lease, Start, Suspended};
+use mal_suspend::{Done, Entries, FROZEN_BYTES, Frozen, Journal, Kept, Lease, Start, Suspended};
 use std::alloc::{AllocError, Global};
 use std::marker::Model;
 use std::mem;
@@ -72,6 +73,27 @@ impl NodeSlot {
         ensures { result.now ≡ self.now.journal }
     {
         &self.journal
+    }
+
+    /// Whether the node has run.
+    pub fn has_run(&self) -> bool
+        ensures { result ≡ not (length self.now.journal.entries == 0) }
+    {
+        has_entries(self.journal.entries())
+    }
+
+    /// The bytes of the image of the node, which is not out: as they are kept, or of the node that is there, or of one
+    /// that is rebuilt.
+    pub fn image(&self, scratch: &mut Scratch) -> Result<Vec<u8>, AllocError>
+        requires { self.now.out ≡ None }
+        ensures { IfOk result (λ v. IsFrozen v.items self.now.journal) }
+    {
+        match &self.whereabouts {
+            Whereabouts::Home(suspended) => suspended.bytes(),
+            Whereabouts::Cold(frozen) => copied(frozen),
+            Whereabouts::Gone => rebuilt(self.journal.copy()?, scratch),
+            Whereabouts::Out(_, _) => unreachable!(),
+        }
     }
 
     /// Whether a start is out.
@@ -252,6 +274,32 @@ impl NodeSlot {
         ensures { self.new ≡ came_home self.old }
     {
         move_to(&mut self.whereabouts, Whereabouts::Gone);
+    }
+}
+
+/// Whether a journal has entries.
+fn has_entries(entries: &Entries) -> bool
+    ensures { result ≡ not (length entries.now == 0) }
+{
+    let (counted, slices) = entries.parts();
+    !counted.is_empty() || slices > 0
+}
+
+/// A copy of the bytes of a node.
+fn copied(frozen: &Frozen) -> Result<Vec<u8>, AllocError>
+    ensures { IfOk result (λ v. IsFrozen v.items frozen.now) }
+{
+    let alloc = frozen.journal().allocator();
+    Vec::from_slice(alloc, frozen.bytes())
+}
+
+/// The bytes of the image of a journal's node, which is rebuilt.
+pub fn rebuilt(journal: Journal, scratch: &mut Scratch) -> Result<Vec<u8>, AllocError>
+    ensures { IfOk result (λ v. IsFrozen v.items journal) }
+{
+    match Kept::Gone(journal).wake(scratch) {
+        Err(_) => Err(AllocError),
+        Ok(suspended) => suspended.bytes(),
     }
 }
 

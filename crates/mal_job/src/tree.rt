@@ -1,17 +1,18 @@
 //! The tree of a job: its nodes at home and out, and what was broadcast to them.
 
-ghost use Rattle.std.specs.Prelude.{◌≡◌, ◌↔◌, ◌+◌, ◌<◌, ◌≤◌, ◌^◌, true, [], ◌++◌, ◌∷◌, length, drop, count_by, get_or, is_some, All, Some, None, IsTrue, IfOk, OnOk, OnErr};
+ghost use Rattle.std.specs.Prelude.{◌≡◌, ◌↔◌, ◌+◌, ◌<◌, ◌≤◌, ◌^◌, ◌==◌, not, true, [], ◌++◌, ◌∷◌, length, drop, count_by, get_or, is_some, All, Some, None, IsTrue, IfOk, OnOk, OnErr};
 ghost use Rattle.mal_base.specs.Clauses.{rises};
 ghost use Rattle.spec_exchange.specs.Exchange.{broadcast};
 ghost use Rattle.spec_job.specs.{Counts.{starts_out}, Journal.{loads_in, imports_in}, Journaled.{replayed, started, and_entries}, SoloMachine.{vacant, is_for, exports_from}};
 ghost use Rattle.mal_suspend.specs.{Freezing.{IsFrozen}, Kept.{journal_of}, Replaying.{MayAllReplay}, Starting.{shared_loads, shared_imports, start_entries}};
-ghost use Rattle.mal_job.specs.{Exports.{marked}, Placing.{IsGrown, IsTree, IsBackAt, placed, with_placed, sent, ran_home, came_home, one_more_ran, revision_of, adds_of}, Viewed.{places_of}};
+ghost use Rattle.mal_job.specs.{Exports.{marked}, Placing.{IsGrown, IsTree, IsBackAt, fresh_place, placed, with_placed, sent, ran_home, came_home, one_more_ran, revision_of, adds_of}, Viewed.{places_of}};
 
 use crate::exchange::{exports, move_marks};
 use crate::loading::broadcasts_of;
-use crate::node_slot::NodeSlot;
+use crate::node_slot::{NodeSlot, rebuilt};
 use mal_buffer::Buffer;
 use mal_exchange::up;
+use mal_learn::Scratch;
 use mal_proof::Log;
 use mal_revision::Revision;
 use mal_suspend::{Done, Journal, Kept, Lease};
@@ -100,6 +101,34 @@ impl Tree {
         match self.places.get(index as usize) {
             None => false,
             Some(place) => place.is_out(),
+        }
+    }
+
+    /// Whether the node of this index has run.
+    pub fn has_run(&self, index: u32) -> bool
+        ensures { result ≡ not (length (get_or (places_of self.now.places) index vacant).entries == 0) }
+    {
+        match self.places.get(index as usize) {
+            None => false,
+            Some(place) => place.has_run(),
+        }
+    }
+
+    /// The bytes of the image of the node of this index (0 to 63), which is not out.
+    pub fn image(&self, index: u32, scratch: &mut Scratch) -> Result<Vec<u8>, AllocError>
+        requires index { index ≤ 63 }
+        requires home { (placed self.now index).out ≡ None }
+        ensures { IfOk result
+            (λ v. IsFrozen v.items
+            (get_or self.now.places index (fresh_place self.now.number self.now.profile index)).journal) }
+    {
+        match self.places.get(index as usize) {
+            None => {
+                let alloc = *self.places.allocator();
+                let journal = Journal::new(alloc, self.number, self.profile, index);
+                rebuilt(journal, scratch)
+            }
+            Some(place) => place.image(scratch),
         }
     }
 
@@ -283,7 +312,7 @@ impl Tree {
     }
 
     /// The revision of the start that is out at this index, counted from 0.
-    fn revision(&self, index: u32) -> usize
+    pub fn revision(&self, index: u32) -> usize
         requires out { is_some (placed self.now index).out ≡ true }
         ensures place { index < length self.now.places }
         ensures value { result ≡ revision_of (placed self.now index).out }
