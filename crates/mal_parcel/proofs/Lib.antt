@@ -1,4 +1,12 @@
 pub mod TakeLemmas
 pub mod LineLemmas
-pub mod EventLemmas
 pub mod PackLemmas
+pub mod ReadableLemmas
+pub mod PassLemmas
+pub mod ReadLemmas
+pub mod FollowsLemmas
+pub mod ReplayedLemmas
+pub mod NodeLemmas
+pub mod FormedLemmas
+pub mod UnpackLemmas
+pub mod CutLemmas

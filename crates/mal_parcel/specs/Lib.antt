@@ -1,3 +1,5 @@
 pub mod Owned
 pub mod Taking
 pub mod Packing
+pub mod Replaying
+pub mod Parcelled

@@ -1,14 +1,14 @@
--- The bytes of a parcel, of what it is packed of.
+-- The bytes of a parcel in two parts.
 use Rattle.std.specs.Prelude.{ℕ, List, ◌++◌, codes}
-use Rattle.mal_base.specs.declared.answer.Answer.{Answer}
-use Rattle.spec_job.specs.SoloMachine.{Slice}
-use Rattle.spec_script.specs.Script.{Scripted, spelling}
-use Rattle.spec_parcel.specs.Packed.{Placed, answer_bytes, listed, placed_bytes, sized, slice_bytes}
+use Rattle.spec_job.specs.KeyedJob.{Key}
+use Rattle.spec_job.specs.SoloMachine.{Own, SoloMachine}
+use Rattle.spec_script.specs.Script.{spelling}
+use Rattle.spec_parcel.specs.Packed.{answer_bytes, listed, node_bytes, own_text, ran_indices, script_of, sized, slice_bytes}
 
--- the sections behind the own events: nodes, slices and answers
-abbrev pub machine_bytes : List Placed → List Slice → List Answer → List ℕ
-machine_bytes nodes slices answers = listed placed_bytes nodes ++ (listed slice_bytes slices ++ listed answer_bytes answers)
+-- the sections up to the own events: what each parcel begins with, the script and the own events
+abbrev pub front_bytes : Key → List Own → List ℕ
+front_bytes k own = codes "MALPACK1" ++ (sized (spelling (script_of k own)) ++ sized (own_text k own))
 
--- a parcel of this script, this text of own events, these nodes, slices and answers
-abbrev pub packed_bytes : Scripted → List ℕ → List ℕ → List ℕ
-packed_bytes script events machine = codes "MALPACK1" ++ (sized (spelling script) ++ (sized events ++ machine))
+-- the sections behind the own events: nodes, slices and answers of a machine
+abbrev pub machine_bytes : SoloMachine → List ℕ
+machine_bytes s = listed (node_bytes s) (ran_indices s) ++ (listed slice_bytes s.slices ++ listed answer_bytes s.answers)

@@ -1,15 +1,15 @@
 //! The section of the own events.
 
-ghost use Rattle.std.specs.Prelude.{◌≡◌, ℕ, [], ◌∷◌, ◌++◌, drop, IfOk, OnOk};
+ghost use Rattle.std.specs.Prelude.{◌≡◌, ℕ, [], ◌∷◌, ◌++◌, IfOk, OnOk};
 ghost use Rattle.spec_text.specs.Lines.{line_of};
-ghost use Rattle.mal_history.specs.{Text.{event_words, history_text}, declared.event.Event.{Event}, declared.event.Event.TheVariants.{Balance}};
+ghost use Rattle.mal_history.specs.{Text.{event_words}, declared.event.Event.TheVariants.{Balance}};
 ghost use Rattle.spec_parcel.specs.Packed.{own_text, revisions_after, sized, written_at};
 ghost use Rattle.mal_parcel.specs.Owned.{own_of, owned};
 
 use crate::owned::OwnEvent;
 use crate::sized::put_sized;
 use mal_base::Name;
-use mal_history::{Event, History, Share, Shares, write};
+use mal_history::{Event, Share, Shares, append_event};
 use std::alloc::{AllocError, Global};
 
 /// Puts the text of a job's own events behind the others, after its length: a line an event.
@@ -60,7 +60,7 @@ fn put_own(
 {
     let after = revisions_after(number, event)?;
     let written = written_at(alloc, tenant, job, after, event)?;
-    put_line(alloc, out, written)?;
+    append_event(out, &written)?;
     Ok(after)
 }
 
@@ -134,39 +134,4 @@ fn balancing(alloc: Global, tenant: Name, job: Name, volume: u32) -> Result<Even
         volume,
     })?;
     Ok(Event::Balance { volumes })
-}
-
-/// Puts the line of an event behind the others: that of the history which has this event alone, without the first line.
-fn put_line(alloc: Global, out: &mut Vec<u8>, event: Event) -> Result<(), AllocError>
-    ensures { OnOk result (out.new.items ≡ out.old.items ++ line_of (event_words event)) }
-{
-    let text = text_alone(alloc, event)?;
-    out.extend_from_slice(line_in(text.as_slice()))
-}
-
-/// The text of the history of one worker which has this event alone.
-fn text_alone(alloc: Global, event: Event) -> Result<Vec<u8>, AllocError>
-    ensures { IfOk result (λ v. v.items ≡ history_text 1 (event ∷ [])) }
-{
-    let mut history = History::new(alloc, 1);
-    history.reserve(1)?;
-    history.push_reserved(event);
-    write(alloc, &history)
-}
-
-/// The line of the event of a history of one worker which has this event alone.
-fn line_in(text: &[u8]) -> &[u8]
-    ensures { (event : Event) → text.now ≡ history_text 1 (event ∷ []) → result.now ≡ line_of (event_words event) }
-{
-    behind_header(text)
-}
-
-/// What stands behind the 10 bytes of the first line.
-fn behind_header(text: &[u8]) -> &[u8]
-    ensures { result.now ≡ drop 10 text.now }
-{
-    if text.len() < 10 {
-        return &[];
-    }
-    &text[10..]
 }

@@ -74,10 +74,30 @@ impl Owned {
         Ok(())
     }
 
+    /// Equal events. The revisions share their lists.
+    pub fn copy(&self) -> Result<Owned, AllocError>
+        ensures { IfOk result (λ o. o ≡ self.now) }
+    {
+        let alloc = *self.events.allocator();
+        let events = copied(alloc, self.events.as_slice())?;
+        Ok(Owned { events })
+    }
+
     /// The events, in order.
     pub fn as_slice(&self) -> &[OwnEvent]
         ensures { owned result.now ≡ self.now }
     {
         self.events.as_slice()
     }
+}
+
+/// Equal events, in order.
+fn copied(alloc: Global, events: &[OwnEvent]) -> Result<Vec<OwnEvent>, AllocError>
+    ensures { IfOk result (λ v. owned v.items ≡ owned events.now) }
+{
+    let mut copies = Vec::with_capacity(alloc, events.len())?;
+    for event in events {
+        copies.push(event.copy()?)?;
+    }
+    Ok(copies)
 }

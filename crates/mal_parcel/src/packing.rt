@@ -1,71 +1,80 @@
-//! The whole of the bytes.
+//! A job is packed.
 
-ghost use Rattle.std.specs.Prelude.{◌≡◌, ◌++◌, map, codes, IfOk, OnOk};
-ghost use Rattle.spec_job.specs.SoloMachine.{solo};
-ghost use Rattle.spec_script.specs.Script.{spelling};
-ghost use Rattle.spec_parcel.specs.Packed.{own_text, parcel_bytes, placed, ran_indices, script_of, sized};
-ghost use Rattle.mal_parcel.specs.{Owned.{owned}, Packing.{machine_bytes}};
+ghost use Rattle.std.specs.Prelude.{◌≡◌, ◌++◌, All, IfOk, OnOk};
+ghost use Rattle.spec_job.specs.{Counts.{starts_out}, Lawful.{IsLawful}, SoloMachine.{SoloMachine, solo}};
+ghost use Rattle.spec_parcel.specs.Packed.{parcel_bytes, ran_indices};
+ghost use Rattle.mal_parcel.specs.{Packing.{front_bytes, machine_bytes}, Parcelled.{IsReadBack}};
 
 use crate::answers::put_answers;
 use crate::events::put_events;
-use crate::nodes::{LentNode, put_nodes};
-use crate::owned::OwnEvent;
-use crate::script::put_script;
-use crate::slices::{LentSlice, put_slices};
-use mal_base::{Answer, Name};
-use mal_script::Script;
+use crate::nodes::put_nodes;
+use crate::owned::Owned;
+use crate::parcel::Parcel;
+use crate::script::{put_script, script_of};
+use crate::slices::put_slices;
+use mal_job::Job;
+use mal_learn::Scratch;
 use std::alloc::{AllocError, Global};
 
-/// The bytes of the parcel of a job with these own events, whose machine has these nodes, slices and answers.
+/// The parcel of a job with these own events, which are lawful. No start is out, and but for its volume, which is left
+/// behind, the job did what the own events tell. Nodes that are gone are rebuilt.
 pub fn packed(
     alloc: Global,
-    tenant: Name,
-    job: Name,
-    script: &Script,
-    events: &[OwnEvent],
-    nodes: &[LentNode<'_>],
-    slices: &[LentSlice<'_>],
-    answers: &[Answer],
-) -> Result<Vec<u8>, AllocError>
-    requires script { script.now ≡ script_of (record { tenant = tenant; job = job }) (owned events.now) }
-    requires nodes { nodes.now ≡ map (placed (solo (owned events.now))) (ran_indices (solo (owned events.now))) }
-    requires slices { slices.now ≡ (solo (owned events.now)).slices }
-    requires answers { answers.now ≡ (solo (owned events.now)).answers }
-    ensures { IfOk result (λ v. v.items ≡ parcel_bytes (record { tenant = tenant; job = job }) (owned events.now)) }
+    own: Owned,
+    job: &Job,
+    scratch: &mut Scratch,
+) -> Result<Parcel, AllocError>
+    requires lawful { IsLawful own }
+    requires home { starts_out job.now.titled.state.places ≡ 0 }
+    requires state { let s : SoloMachine = record job.now.titled.state { volume = 0 } in solo own ≡ s }
+    ensures { IfOk result (λ p. p ≡ record { key = job.now.titled.key; own = own }) }
 {
-    let mut out = bytes_of(alloc, tenant, job, script, events)?;
-    put_machine(alloc, &mut out, nodes, slices, answers)?;
+    let bytes = bytes_of(alloc, &own, job, scratch)?;
+    Ok(Parcel::of(job.tenant(), job.name(), bytes, own))
+}
+
+/// The bytes of the parcel of a job with these own events.
+fn bytes_of(
+    alloc: Global,
+    own: &Owned,
+    job: &Job,
+    scratch: &mut Scratch,
+) -> Result<Vec<u8>, AllocError>
+    requires lawful { IsLawful own.now }
+    requires home { starts_out job.now.titled.state.places ≡ 0 }
+    requires state { let s : SoloMachine = record job.now.titled.state { volume = 0 } in solo own.now ≡ s }
+    ensures spelled { IfOk result (λ v. v.items ≡ parcel_bytes job.now.titled.key own.now) }
+    ensures again { IfOk result (λ v. All (IsReadBack (solo own.now)) (ran_indices (solo own.now))) }
+{
+    let mut out = front_of(alloc, own, job)?;
+    put_machine(alloc, &mut out, job, scratch)?;
     Ok(out)
 }
 
 /// The bytes up to the machine: the magic word, the script and the own events.
-fn bytes_of(
-    alloc: Global,
-    tenant: Name,
-    job: Name,
-    script: &Script,
-    events: &[OwnEvent],
-) -> Result<Vec<u8>, AllocError>
-    ensures { IfOk result (λ v. v.items ≡ codes "MALPACK1" ++ (sized (spelling script.now)
-        ++ sized (own_text (record { tenant = tenant; job = job }) (owned events.now)))) }
+fn front_of(alloc: Global, own: &Owned, job: &Job) -> Result<Vec<u8>, AllocError>
+    requires { IsLawful own.now }
+    ensures { IfOk result (λ v. v.items ≡ front_bytes job.now.titled.key own.now) }
 {
+    let script = script_of(alloc, own, job)?;
     let mut out = Vec::from_slice(alloc, b"MALPACK1")?;
-    put_script(alloc, &mut out, script)?;
-    put_events(alloc, &mut out, tenant, job, events)?;
+    put_script(alloc, &mut out, &script)?;
+    put_events(alloc, &mut out, job.tenant(), job.name(), own.as_slice())?;
     Ok(out)
 }
 
-/// Puts the machine behind the others: its nodes, its slices and its answers.
+/// Puts a job's machine behind the others: its nodes, its slices and its answers. No start is out.
 fn put_machine(
     alloc: Global,
     out: &mut Vec<u8>,
-    nodes: &[LentNode<'_>],
-    slices: &[LentSlice<'_>],
-    answers: &[Answer],
+    job: &Job,
+    scratch: &mut Scratch,
 ) -> Result<(), AllocError>
-    ensures { OnOk result (out.new.items ≡ out.old.items ++ machine_bytes nodes.now slices.now answers.now) }
+    requires { starts_out job.now.titled.state.places ≡ 0 }
+    ensures machine { OnOk result (out.new.items ≡ out.old.items ++ machine_bytes job.now.titled.state) }
+    ensures again { OnOk result (All (IsReadBack job.now.titled.state) (ran_indices job.now.titled.state)) }
 {
-    put_nodes(out, nodes)?;
-    put_slices(alloc, out, slices)?;
-    put_answers(out, answers)
+    put_nodes(alloc, out, job, scratch)?;
+    put_slices(alloc, out, job)?;
+    put_answers(out, job.answers())
 }

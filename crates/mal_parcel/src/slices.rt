@@ -2,6 +2,7 @@
 
 ghost use Rattle.std.specs.Prelude.{◌≡◌, ℕ, ◌<◌, ◌∷◌, ◌++◌, Bool, List, flat_map, length, slice_get, Some, IfOk, OnOk};
 ghost use Rattle.mal_base.specs.NumberedClause.{Line};
+ghost use Rattle.spec_job.specs.SoloMachine.{Slice};
 ghost use Rattle.spec_text.specs.Lines.{line_of};
 ghost use Rattle.spec_proof.specs.Log.{added};
 ghost use Rattle.spec_lrat.specs.Written.{row_of};
@@ -13,53 +14,37 @@ ghost use Rattle.mal_parcel.specs.Taking.{Takes, found, slice_in};
 use crate::answers::phase_code;
 use crate::sized::{put_length, put_sized, take_number, take_sized};
 use mal_base::Lines;
+use mal_job::Job;
 use mal_lrat::put_added;
 use std::alloc::{AllocError, Global};
-use std::marker::Model;
 
-/// A slice that was run: the lines that it logged, lent, and whether its verdict answered a revision. Contracts see the
-/// two.
-#[derive(Drop)]
-pub struct LentSlice<'a> {
-    pub lines: &'a Lines,
-    pub ends: bool,
-}
-
-impl<'a> Model for LentSlice<'a> {
-    ghost use Rattle.spec_job.specs.SoloMachine.{Slice};
-
-    ghost Value = { Slice };
-
-    ghost view = { λ s. record { lines = s.lines.now.lines; ends = s.ends } };
-}
-
-/// Puts how many slices were run, and then each of them, behind the others.
-pub fn put_slices(
-    alloc: Global,
-    out: &mut Vec<u8>,
-    slices: &[LentSlice<'_>],
-) -> Result<(), AllocError>
-    ensures { OnOk result (out.new.items ≡ out.old.items ++ listed slice_bytes slices.now) }
+/// Puts how many slices of a job were run, and then each of them, behind the others.
+pub fn put_slices(alloc: Global, out: &mut Vec<u8>, job: &Job) -> Result<(), AllocError>
+    ensures { OnOk result (out.new.items ≡ out.old.items ++ listed slice_bytes job.now.titled.state.slices) }
 {
-    put_length(out, slices.len())?;
-    put_each(alloc, out, slices)
+    put_length(out, job.slice_count())?;
+    put_each(alloc, out, job)
 }
 
-/// Puts slices behind the others.
-fn put_each(alloc: Global, out: &mut Vec<u8>, slices: &[LentSlice<'_>]) -> Result<(), AllocError>
-    ensures { OnOk result (out.new.items ≡ out.old.items ++ flat_map slice_bytes slices.now) }
+/// Puts the slices of a job behind the others.
+fn put_each(alloc: Global, out: &mut Vec<u8>, job: &Job) -> Result<(), AllocError>
+    ensures { OnOk result (out.new.items ≡ out.old.items ++ flat_map slice_bytes job.now.titled.state.slices) }
 {
-    for slice in slices {
-        put_lent(alloc, out, slice)?;
+    for n in 0..job.slice_count() {
+        put_at(alloc, out, job, n)?;
     }
     Ok(())
 }
 
-/// Puts a lent slice behind the others.
-fn put_lent(alloc: Global, out: &mut Vec<u8>, slice: &LentSlice<'_>) -> Result<(), AllocError>
-    ensures { OnOk result (out.new.items ≡ out.old.items ++ slice_bytes slice.now) }
+/// Puts a slice of a job behind the others, the slices counted from 0.
+fn put_at(alloc: Global, out: &mut Vec<u8>, job: &Job, n: usize) -> Result<(), AllocError>
+    requires { n < length job.now.titled.state.slices }
+    ensures { OnOk result
+        ((c : Slice) → slice_get job.now.titled.state.slices n ≡ Some c
+        → out.new.items ≡ out.old.items ++ slice_bytes c) }
 {
-    put_slice(alloc, out, slice.lines, slice.ends)
+    let (lines, ends) = job.slice(n);
+    put_slice(alloc, out, lines, ends)
 }
 
 /// Puts a slice behind the others: whether its verdict answered a revision, how many lines it logged, and their text.

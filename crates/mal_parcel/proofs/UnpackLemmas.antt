@@ -1,0 +1,66 @@
+-- Own events one after another, and nodes one after another.
+use Rattle.std.proofs.Common.{◌≡◌, ℕ, zero, suc, ◌+◌, ◌<◌, ◌≤◌, ◌^◌, List, [], ◌∷◌, ◌++◌, length, map, take, drop, get_or, Some, refl, sym, ◌∙◌, ap, subst, arith, append_assoc}
+use Rattle.std.specs.Prelude.{flat_map, slice_get}
+use Rattle.std.specs.List.{AllByRecursion}
+use Rattle.std.proofs.lemmas.Option.{slice_get-get_or}
+use Rattle.spec_job.specs.KeyedJob.{Key}
+use Rattle.spec_job.specs.Lawful.{IsLawful}
+use Rattle.spec_job.specs.SoloMachine.{Own, SoloMachine}
+use Rattle.spec_job.specs.Viewed.{JobView}
+use Rattle.spec_parcel.specs.Packed.{node_bytes}
+use Rattle.mal_parcel.specs.declared.owned.OwnEvent.{OwnEvent}
+use Rattle.mal_parcel.specs.Owned.{own_of, owned}
+use Rattle.mal_parcel.specs.Parcelled.{IsReadBack}
+use Rattle.mal_parcel.specs.Replaying.{IsBefore, IsNext, IsReplayed, IsToWake}
+
+-- what stands at a place parts a list
+parted : {X : Type 0} (xs : List X) (n : ℕ) (x : X) → slice_get xs n ≡ Some x → take n xs ++ x ∷ drop (suc n) xs ≡ xs
+parted {X} [] n x e = absurd (cc)
+parted {X} (y ∷ ys) zero x e = let same : y ≡ x = cc in ap (λ (z : X). z ∷ ys) (sym same)
+parted {X} (y ∷ ys) (suc n) x e = ap (λ (zs : List X). y ∷ zs) (parted ys n x e)
+
+fronted : {X : Type 0} (xs : List X) (n : ℕ) (x : X) → slice_get xs n ≡ Some x → take n xs ++ x ∷ [] ≡ take (suc n) xs
+fronted {X} [] n x e = absurd (cc)
+fronted {X} (y ∷ ys) zero x e = let same : y ≡ x = cc in ap (λ (z : X). z ∷ []) (sym same)
+fronted {X} (y ∷ ys) (suc n) x e = ap (λ (zs : List X). y ∷ zs) (fronted ys n x e)
+
+owned-get : (events : List OwnEvent) (n : ℕ) (e : OwnEvent) → slice_get events n ≡ Some e → slice_get (owned events) n ≡ Some (own_of e)
+owned-get [] n e is = absurd (cc)
+owned-get (x ∷ xs) zero e is = let same : x ≡ e = cc in ap (λ (y : OwnEvent). Some (own_of y)) same
+owned-get (x ∷ xs) (suc n) e is = owned-get xs n e is
+
+-- what is read of a place stands there
+pub got : (events : List OwnEvent) (n : ℕ) (e : OwnEvent) → n < length events → e ≡ get_or events n e → slice_get events n ≡ Some e
+got events n e low is = slice_get-get_or events n e low ∙ ap (λ (x : OwnEvent). Some x) (sym is)
+
+module _ (number : ℕ) (key : Key) (events : List OwnEvent) (n : ℕ) (e : OwnEvent) (at : slice_get events n ≡ Some e) (lawful : IsLawful (owned events)) (j : JobView) (slices answers : List ℕ) (h : IsReplayed number key (owned events) (take n (owned events)) j slices answers) where
+  -- the own events in three parts
+  pub whole-at : take n (owned events) ++ own_of e ∷ drop (suc n) (owned events) ≡ owned events
+  whole-at = parted (owned events) n (own_of e) (owned-get events n e at)
+
+  -- a job stands before the event at this place
+  abbrev pub before-at : IsBefore (own_of e) j slices answers
+  before-at = record { number = number; key = key; past = take n (owned events); later = drop (suc n) (owned events); lawful = subst IsLawful (sym whole-at) lawful; replayed = subst (λ (os : List Own). IsReplayed number key os (take n (owned events)) j slices answers) (sym whole-at) h }
+
+  -- and then behind it
+  pub behind-at : (next : JobView) (ss rest : List ℕ) → ((b : IsBefore (own_of e) j slices answers) → IsReplayed b.number b.key (b.past ++ own_of e ∷ b.later) (b.past ++ own_of e ∷ []) next ss rest) → IsReplayed number key (owned events) (take (n + 1) (owned events)) next ss rest
+  behind-at next ss rest done =
+      let one : suc n ≡ n + 1 = omega arith in
+      subst (λ (os : List Own). IsReplayed number key (owned events) os next ss rest) (fronted (owned events) n (own_of e) (owned-get events n e at) ∙ ap (λ (m : ℕ). take m (owned events)) one)
+      (subst (λ (os : List Own). IsReplayed number key os (take n (owned events) ++ own_of e ∷ []) next ss rest) whole-at (done before-at))
+
+-- the first of the nodes that are left
+pub first-next : (s : SoloMachine) (count : ℕ) (bytes : List ℕ) → 1 ≤ count → IsToWake s count bytes → IsNext s bytes
+first-next s count bytes some h = by_indices h.indices h.counted h.low h.again h.front
+  where
+    by_indices : (is : List ℕ) → length is ≡ count → AllByRecursion (λ i. i ≤ 63) is → AllByRecursion (IsReadBack s) is → bytes ≡ flat_map (node_bytes s) is ++ h.more → IsNext s bytes
+    by_indices [] counted low again front = absurd (omega (arith, counted, some))
+    by_indices (i ∷ is) counted low again front = record { index = i; more = flat_map (node_bytes s) is ++ h.more; low = low.0; again = again.0; front = front ∙ append_assoc (node_bytes s i) (flat_map (node_bytes s) is) h.more }
+
+-- and the others
+pub others-left : (s : SoloMachine) (count fewer : ℕ) (bytes rest : List ℕ) → fewer + 1 ≡ count → ((i : ℕ) (more : List ℕ) → i ≤ 63 → bytes ≡ node_bytes s i ++ more → rest ≡ more) → IsToWake s count bytes → IsToWake s fewer rest
+others-left s count fewer bytes rest one behind h = by_indices h.indices h.counted h.low h.again h.front
+  where
+    by_indices : (is : List ℕ) → length is ≡ count → AllByRecursion (λ i. i ≤ 63) is → AllByRecursion (IsReadBack s) is → bytes ≡ flat_map (node_bytes s) is ++ h.more → IsToWake s fewer rest
+    by_indices [] counted low again front = absurd (omega (arith, counted, one))
+    by_indices (i ∷ is) counted low again front = record { indices = is; more = h.more; counted = omega (arith, counted, one); low = low.1; again = again.1; front = behind i (flat_map (node_bytes s) is ++ h.more) low.0 (front ∙ append_assoc (node_bytes s i) (flat_map (node_bytes s) is) h.more) }

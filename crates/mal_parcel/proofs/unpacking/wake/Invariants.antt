@@ -1,0 +1,9 @@
+use Rattle.std.proofs.Common.{◌≡◌, ◌-◌}
+use Rattle.mal_parcel.specs.Replaying.{IsToWake}
+use Rattle.mal_parcel.proofs.unpacking.wake.Given as goal
+
+abbrev pub invariant-loop : goal.invariant-loop
+invariant-loop l = record {
+  same : l.job ≡ l.initial.job;
+  left : IsToWake l.job.titled.state (l.count - l.counter) l.rest;
+}
