@@ -1,21 +1,20 @@
 -- What is kept beside the seats after a change.
 use Rattle.std.proofs.Common.{◌≡◌, ℕ, suc, ◌+◌, ◌<◌, ◌^◌, cond, List, [], ◌∷◌, ◌++◌, length, take, drop, get_or, slice_get, slice_set, Some, Result, Ok, Err, refl, sym, ◌∙◌, ap, arith}
-use Rattle.std.specs.BTreeMap.{BTreeMap}
 use Rattle.std.specs.Prelude.{OnErr, OnOk}
+use Rattle.std.specs.List.{remove}
 use Rattle.std.proofs.lemmas.List.{set-get_or, take_at}
 use Rattle.std.proofs.lemmas.List.Sums.{count_by-le-length}
 use Rattle.std.proofs.lemmas.Option.{slice_get_read, get_or_from_slice_get}
-use Rattle.mal_base.specs.Asks.{Terms}
-use Rattle.spec_job.specs.KeyedJob.{Key}
-use Rattle.spec_hall.specs.Seats.{Seat, balanced_by, balanced_from, has_changed, is_live_seat, opened_seat}
+use Rattle.spec_hall.specs.Seats.{Seat, balanced_by, balanced_from, has_changed, is_live_seat}
 use Rattle.mal_seats.specs.Changed.{HasStepped, IsChanged, IsSteady}
-use Rattle.mal_seats.specs.Counted.{AreCounted, AreRecounted, IsAmong, is_unfinished, marks_of}
+use Rattle.mal_seats.specs.Counted.{AreCounted, AreRecounted, IsAmong, is_unfinished, marks_of, no_marks, one}
 use Rattle.mal_seats.specs.Kept.{AreKept}
 use Rattle.mal_seats.specs.declared.counts.Counts.{Counts}
-use Rattle.mal_seats.specs.Filled.{filled_in}
-use Rattle.mal_seats.proofs.CountLemmas.{changed-open, count-at, count-set, none-changed, unfinished-balanced, unfinished-open}
-use Rattle.mal_seats.proofs.FilledLemmas.{filled-open, filled-set, volume_of}
-use Rattle.mal_seats.proofs.NameLemmas.{key_of, named-set}
+use Rattle.mal_seats.specs.Filled.{closed_up, filled_in}
+use Rattle.mal_seats.specs.Numbered.{IsAbove}
+use Rattle.mal_seats.proofs.CountLemmas.{count-at, count-push, count-remove, count-set, none-changed, unfinished-balanced}
+use Rattle.mal_seats.proofs.FilledLemmas.{filled-push, filled-remove, filled-set, volume_of}
+use Rattle.mal_seats.proofs.NumberLemmas.{number_of, rise-push, rise-remove, rise-set}
 
 -- the seat that is read at a place
 pub seat-at : (ss : List Seat) (at : ℕ) (s : Seat) → at < length ss → s ≡ get_or ss at s → slice_get ss at ≡ Some s
@@ -36,8 +35,8 @@ stepped-same (Err e) Step at ss now has is =
 
 -- a step that is taken or refused
 pub steady-if : {T E : Type 0} (r : Result T E) (s now t : Seat) → IsSteady s t → OnOk r (now ≡ t) → OnErr r (now ≡ s) → IsSteady s now
-steady-if (Ok x) s now t steady ok err = record { key = ap key_of ok ∙ steady.key; volume = ap volume_of ok ∙ steady.volume }
-steady-if (Err e) s now t steady ok err = record { key = ap key_of err; volume = ap volume_of err }
+steady-if (Ok x) s now t steady ok err = record { number = ap number_of ok ∙ steady.number; volume = ap volume_of ok ∙ steady.volume }
+steady-if (Err e) s now t steady ok err = record { number = ap number_of err; volume = ap volume_of err }
 
 -- each seat is counted
 pub is-among : (ss : List Seat) (counts : Counts) (filled : List ℕ) (at : ℕ) (s : Seat) → AreCounted ss counts filled → slice_get ss at ≡ Some s → length ss < 2 ^ 63 → IsAmong (marks_of s) counts
@@ -48,24 +47,53 @@ is-among ss counts filled at s kept there few = record {
   unfinished_room = omega (arith, kept.unfinished_is, count_by-le-length is_unfinished ss);
 }
 
--- one seat has changed, and its key and volume stayed
-pub kept-change : (ss : List Seat) (counts : Counts) (filled : List ℕ) (places : BTreeMap (List ℕ × List ℕ) ℕ) (tenants : BTreeMap (List ℕ) ℕ) (at : ℕ) (s now : Seat) (recounted : Counts) → AreKept ss counts filled places tenants → slice_get ss at ≡ Some s → IsSteady s now → AreRecounted (marks_of s) (marks_of now) counts recounted → AreKept (slice_set ss at now) recounted filled places tenants
-kept-change ss counts filled places tenants at s now recounted kept there steady are = record {
+-- and there is room to count one more
+pub is-room : (ss : List Seat) (counts : Counts) (filled : List ℕ) → AreCounted ss counts filled → length ss < 2 ^ 63 → IsAmong no_marks counts
+is-room ss counts filled kept few = record {
+  changed = omega arith;
+  unfinished = omega arith;
+  changed_room = omega (arith, kept.changed_is, count_by-le-length has_changed ss);
+  unfinished_room = omega (arith, kept.unfinished_is, count_by-le-length is_unfinished ss);
+}
+
+-- one seat has changed, and its number and volume stayed
+pub kept-change : (ss : List Seat) (counts : Counts) (filled : List ℕ) (at : ℕ) (s now : Seat) (recounted : Counts) → AreKept ss counts filled → slice_get ss at ≡ Some s → IsSteady s now → AreRecounted (marks_of s) (marks_of now) counts recounted → AreKept (slice_set ss at now) recounted filled
+kept-change ss counts filled at s now recounted kept there steady are = record {
   counted = record {
     changed_is = omega (arith, kept.counted.changed_is, count-set has_changed ss at s now there, are.changed);
     unfinished_is = omega (arith, kept.counted.unfinished_is, count-set is_unfinished ss at s now there, are.unfinished);
     filled_is = kept.counted.filled_is ∙ sym (filled-set 0 ss at s now there steady.volume);
   };
-  named = named-set ss places tenants at s now kept.named there steady.key;
+  rising = rise-set ss at s now kept.rising there steady.number;
 }
 
--- a job is opened
-pub kept-open : (ss : List Seat) (counts : Counts) (filled : List ℕ) (number : ℕ) (k : Key) (ask : Terms) → AreCounted ss counts filled → AreCounted (ss ++ opened_seat number k ask ∷ []) (record counts { unfinished = counts.unfinished + 1 }) filled
-kept-open ss counts filled number k ask kept = record {
-  changed_is = kept.changed_is ∙ sym (changed-open ss number k ask);
-  unfinished_is = ap (λ (n : ℕ). n + 1) kept.unfinished_is ∙ sym (unfinished-open ss number k ask);
-  filled_is = kept.filled_is ∙ sym (filled-open 0 ss number k ask);
-}
+-- a job comes without a volume
+pub kept-push : (ss : List Seat) (counts : Counts) (filled : List ℕ) (s : Seat) (recounted : Counts) → AreKept ss counts filled → IsAbove s.job.number ss → volume_of s ≡ 0 → AreRecounted no_marks (marks_of s) counts recounted → AreKept (ss ++ s ∷ []) recounted filled
+kept-push ss counts filled s recounted kept above still are =
+    let changed : recounted.changed + 0 ≡ counts.changed + one (has_changed s) = are.changed in
+    let unfinished : recounted.unfinished + 0 ≡ counts.unfinished + one (is_unfinished s) = are.unfinished in
+    record {
+      counted = record {
+        changed_is = omega (arith, kept.counted.changed_is, count-push has_changed ss s, changed);
+        unfinished_is = omega (arith, kept.counted.unfinished_is, count-push is_unfinished ss s, unfinished);
+        filled_is = kept.counted.filled_is ∙ sym (filled-push 0 ss s still);
+      };
+      rising = rise-push ss s kept.rising above;
+    }
+
+-- a job leaves
+pub kept-leave : (ss : List Seat) (counts : Counts) (filled now : List ℕ) (at : ℕ) (s : Seat) (recounted : Counts) → AreKept ss counts filled → slice_get ss at ≡ Some s → AreRecounted (marks_of s) no_marks counts recounted → now ≡ closed_up at filled → AreKept (remove ss at) recounted now
+kept-leave ss counts filled now at s recounted kept there are is =
+    let changed : recounted.changed + one (has_changed s) ≡ counts.changed + 0 = are.changed in
+    let unfinished : recounted.unfinished + one (is_unfinished s) ≡ counts.unfinished + 0 = are.unfinished in
+    record {
+      counted = record {
+        changed_is = omega (arith, kept.counted.changed_is, count-remove has_changed ss at s there, changed);
+        unfinished_is = omega (arith, kept.counted.unfinished_is, count-remove is_unfinished ss at s there, unfinished);
+        filled_is = is ∙ (ap (closed_up at) kept.counted.filled_is ∙ sym (filled-remove 0 at at ss (omega arith)));
+      };
+      rising = rise-remove ss at kept.rising;
+    }
 
 -- a balancing
 pub kept-balance : (ss : List Seat) (vs : List ℕ) (counts : Counts) (filled now : List ℕ) → AreCounted ss counts filled → now ≡ filled_in (balanced_by vs ss) → AreCounted (balanced_by vs ss) (record counts { changed = 0 }) now

@@ -1,15 +1,14 @@
 -- How many seats pass a test.
 use Rattle.std.proofs.Common.{◌≡◌, ℕ, zero, suc, ◌+◌, ◌≤◌, Bool, true, false, not, ◌&&◌, ◌||◌, ◌==◌, List, [], ◌∷◌, ◌++◌, slice_get, slice_set, Some, refl, sym, ◌∙◌, ap, arith}
 use Rattle.std.specs.Prelude.{count_by, nat_lt, if◌then◌else◌}
-use Rattle.std.specs.List.{list_any}
+use Rattle.std.specs.List.{list_any, remove}
 use Rattle.std.proofs.lemmas.Bool.Decides.{Decides-eqb, Decides-ltb}
 use Rattle.std.proofs.lemmas.List.Sums.{sum_by-cons, sum_by-append, sum_by-set}
 use Rattle.std.proofs.lemmas.Option.{slice_get_within, get_or_from_slice_get}
 use Rattle.mal_base.specs.Asks.{Terms}
 use Rattle.spec_balance.specs.Fair.{volume_at}
-use Rattle.spec_job.specs.KeyedJob.{Key}
 use Rattle.spec_hall.specs.Driven.{is_done}
-use Rattle.spec_hall.specs.Seats.{Seat, asks_alike, balanced_from, balanced_seat, has_changed, is_live_seat, jobs_in, opened_seat}
+use Rattle.spec_hall.specs.Seats.{Seat, asks_alike, balanced_from, balanced_seat, has_changed, is_live_seat, jobs_in}
 use Rattle.mal_seats.specs.Counted.{one, is_unfinished}
 
 -- a seat counts among the first
@@ -32,6 +31,18 @@ count-at p (x ∷ xs) (suc n) s at = omega (arith, count-cons p x xs, count-at p
 -- how many pass with one seat more
 pub count-push : (p : Seat → Bool) (ss : List Seat) (s : Seat) → count_by p (ss ++ s ∷ []) ≡ count_by p ss + one (p s)
 count-push p ss s = omega (arith, sum_by-append (λ (t : Seat). one (p t)) ss (s ∷ []), count-cons p s [])
+
+-- how many pass without one seat
+pub count-remove : (p : Seat → Bool) (ss : List Seat) (n : ℕ) (s : Seat) → slice_get ss n ≡ Some s → count_by p (remove ss n) + one (p s) ≡ count_by p ss
+count-remove p [] n s at = absurd (cc)
+count-remove p (x ∷ xs) zero s at =
+    let same : x ≡ s = cc in
+    let here : one (p x) ≡ one (p s) = ap (λ (t : Seat). one (p t)) same in
+    let left : count_by p (remove (x ∷ xs) zero) ≡ count_by p xs = refl in
+    omega (arith, here, left, count-cons p x xs)
+count-remove p (x ∷ xs) (suc n) s at =
+    let left : count_by p (remove (x ∷ xs) (suc n)) ≡ count_by p (x ∷ remove xs n) = refl in
+    omega (arith, left, count-cons p x xs, count-cons p x (remove xs n), count-remove p xs n s at)
 
 positive : (n : ℕ) → 1 ≤ n → true ≡ nat_lt 0 n
 positive n some = sym ((Decides-ltb 0 n).1 (omega arith))
@@ -93,10 +104,3 @@ unfinished-balanced n vs (s ∷ ss) =
     let now : Seat = balanced_seat (volume_at vs n) s in
     let here : one (is_unfinished now) ≡ one (is_unfinished s) = refl in
     omega (arith, count-cons is_unfinished s ss, count-cons is_unfinished now (balanced_from next vs ss), unfinished-balanced next vs ss)
-
--- a job that was just opened is not closed, and no balancing has to see it
-pub changed-open : (ss : List Seat) (number : ℕ) (k : Key) (ask : Terms) → count_by has_changed (ss ++ opened_seat number k ask ∷ []) ≡ count_by has_changed ss
-changed-open ss number k ask = omega (arith, count-push has_changed ss (opened_seat number k ask))
-
-pub unfinished-open : (ss : List Seat) (number : ℕ) (k : Key) (ask : Terms) → count_by is_unfinished (ss ++ opened_seat number k ask ∷ []) ≡ count_by is_unfinished ss + 1
-unfinished-open ss number k ask = count-push is_unfinished ss (opened_seat number k ask)

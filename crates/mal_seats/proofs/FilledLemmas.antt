@@ -1,15 +1,15 @@
 -- What is found among the jobs that have a volume is what is found among all.
-use Rattle.std.proofs.Common.{◌≡◌, ℕ, zero, suc, ◌+◌, ◌*◌, Bool, true, false, ◌&&◌, cond, List, [], ◌∷◌, ◌++◌, drop, fold, slice_get, slice_set, Option, Some, None, option_map, refl, sym, ◌∙◌, ap, add-one, arith}
-use Rattle.std.specs.Prelude.{nat_lt, nat_le}
+use Rattle.std.proofs.Common.{◌≡◌, ℕ, zero, suc, ◌+◌, ◌-◌, ◌*◌, ◌<◌, ◌≤◌, Bool, true, false, not, ◌&&◌, ◌==◌, cond, List, [], ◌∷◌, ◌++◌, drop, map, fold, slice_get, slice_set, Option, Some, None, option_map, refl, sym, ◌∙◌, ap, add-one, arith}
+use Rattle.std.specs.Prelude.{filter, nat_lt, nat_le}
+use Rattle.std.specs.List.{remove}
 use Rattle.std.specs.Option.{option_map_or}
+use Rattle.std.proofs.lemmas.Bool.{eq-eqb, le-ltb, lt-ltb, ne_eqb}
 use Rattle.std.proofs.lemmas.Bool.Decides.{Decides-ltb}
-use Rattle.mal_base.specs.Asks.{Terms}
 use Rattle.spec_node.specs.Load.{counted}
-use Rattle.spec_job.specs.KeyedJob.{Key}
 use Rattle.spec_job.specs.SoloMachine.{is_exchange_due}
-use Rattle.spec_hall.specs.Seats.{Seat, first_exchange, opened_seat, pick, pick_from, pick_job, pick_node}
+use Rattle.spec_hall.specs.Seats.{Seat, first_exchange, pick, pick_from, pick_job, pick_node}
 use Rattle.spec_hall.specs.States.{Candidate}
-use Rattle.mal_seats.specs.Filled.{filled_first, filled_from, filled_in, first_among, is_due_at, pick_among, pick_at}
+use Rattle.mal_seats.specs.Filled.{closed_up, filled_first, filled_from, filled_in, first_among, is_due_at, moved_up, pick_among, pick_at}
 
 -- the volume of a job
 abbrev pub volume_of : Seat → ℕ
@@ -102,7 +102,71 @@ filled-set at (x ∷ xs) zero s now e volume =
     ap (λ (v : ℕ). filled_first at v (filled_from (at + 1) xs)) (volume ∙ ap volume_of (sym same))
 filled-set at (x ∷ xs) (suc n) s now e volume = ap (filled_first at (volume_of x)) (filled-set (at + 1) xs n s now e volume)
 
--- a job that was just opened has none
-pub filled-open : (at : ℕ) (ss : List Seat) (number : ℕ) (k : Key) (ask : Terms) → filled_from at (ss ++ opened_seat number k ask ∷ []) ≡ filled_from at ss
-filled-open at [] number k ask = refl
-filled-open at (x ∷ xs) number k ask = ap (filled_first at (volume_of x)) (filled-open (at + 1) xs number k ask)
+-- a job that comes without one
+pub filled-push : (at : ℕ) (ss : List Seat) (s : Seat) → volume_of s ≡ 0 → filled_from at (ss ++ s ∷ []) ≡ filled_from at ss
+filled-push at [] s none = ap (λ (v : ℕ). filled_first at v []) none
+filled-push at (x ∷ xs) s none = ap (filled_first at (volume_of x)) (filled-push (at + 1) xs s none)
+
+-- a place of those that close up
+closed-cons : (gone p : ℕ) (ps : List ℕ) → closed_up gone (p ∷ ps) ≡ cond (p == gone) (closed_up gone ps) (moved_up gone p ∷ closed_up gone ps)
+closed-cons gone p ps = by_test (p == gone)
+  where
+    kept : List ℕ
+    kept = filter (λ (at : ℕ). not (at == gone)) ps
+
+    by_test : (b : Bool) → map (moved_up gone) (cond (not b) (p ∷ kept) kept) ≡ cond b (map (moved_up gone) kept) (moved_up gone p ∷ map (moved_up gone) kept)
+    by_test true = refl
+    by_test false = refl
+
+closed-gone : (gone p : ℕ) (ps : List ℕ) → p ≡ gone → closed_up gone (p ∷ ps) ≡ closed_up gone ps
+closed-gone gone p ps same = closed-cons gone p ps ∙ ap (λ (b : Bool). cond b (closed_up gone ps) (moved_up gone p ∷ closed_up gone ps)) (eq-eqb p gone same)
+
+closed-before : (gone p : ℕ) (ps : List ℕ) → p < gone → closed_up gone (p ∷ ps) ≡ p ∷ closed_up gone ps
+closed-before gone p ps low =
+    closed-cons gone p ps
+    ∙ (ap (λ (b : Bool). cond b (closed_up gone ps) (moved_up gone p ∷ closed_up gone ps)) (ne_eqb p gone (λ (e : p ≡ gone). omega arith))
+    ∙ ap (λ (b : Bool). cond b (p - 1) p ∷ closed_up gone ps) (le-ltb gone p (omega arith)))
+
+closed-behind : (gone p : ℕ) (ps : List ℕ) → gone ≤ p → closed_up gone ((p + 1) ∷ ps) ≡ p ∷ closed_up gone ps
+closed-behind gone p ps high =
+    let back : p + 1 - 1 ≡ p = omega arith in
+    closed-cons gone (p + 1) ps
+    ∙ (ap (λ (b : Bool). cond b (closed_up gone ps) (moved_up gone (p + 1) ∷ closed_up gone ps)) (ne_eqb (p + 1) gone (λ (e : p + 1 ≡ gone). omega arith))
+    ∙ (ap (λ (b : Bool). cond b (p + 1 - 1) (p + 1) ∷ closed_up gone ps) (lt-ltb gone (p + 1) (omega arith))
+    ∙ ap (λ (n : ℕ). n ∷ closed_up gone ps) back))
+
+-- the places of seats behind one that is gone
+filled-behind : (n gone : ℕ) (ss : List Seat) → gone ≤ n → closed_up gone (filled_from (n + 1) ss) ≡ filled_from n ss
+filled-behind n gone [] low = refl
+filled-behind n gone (s ∷ ss) low = by_volume (nat_lt 0 (volume_of s)) (filled-behind (n + 1) gone ss (omega arith))
+  where
+    later : List ℕ
+    later = filled_from (n + 1 + 1) ss
+
+    by_volume : (b : Bool) → closed_up gone later ≡ filled_from (n + 1) ss → closed_up gone (cond b ((n + 1) ∷ later) later) ≡ cond b (n ∷ filled_from (n + 1) ss) (filled_from (n + 1) ss)
+    by_volume true rest = closed-behind gone n later low ∙ ap (λ (ps : List ℕ). n ∷ ps) rest
+    by_volume false rest = rest
+
+-- the seats without one
+pub filled-remove : (n at gone : ℕ) (ss : List Seat) → gone ≡ n + at → filled_from n (remove ss at) ≡ closed_up gone (filled_from n ss)
+filled-remove n zero gone [] here = refl
+filled-remove n (suc at) gone [] here = refl
+filled-remove n zero gone (s ∷ ss) here = by_volume (nat_lt 0 (volume_of s))
+  where
+    later : List ℕ
+    later = filled_from (n + 1) ss
+
+    rest : closed_up gone later ≡ filled_from n ss
+    rest = filled-behind n gone ss (omega arith)
+
+    by_volume : (b : Bool) → filled_from n ss ≡ closed_up gone (cond b (n ∷ later) later)
+    by_volume true = sym (closed-gone gone n later (omega arith) ∙ rest)
+    by_volume false = sym rest
+filled-remove n (suc at) gone (s ∷ ss) here = ap (filled_first n (volume_of s)) (filled-remove (n + 1) at gone ss (omega arith)) ∙ by_volume (nat_lt 0 (volume_of s))
+  where
+    later : List ℕ
+    later = filled_from (n + 1) ss
+
+    by_volume : (b : Bool) → cond b (n ∷ closed_up gone later) (closed_up gone later) ≡ closed_up gone (cond b (n ∷ later) later)
+    by_volume true = sym (closed-before gone n later (omega arith))
+    by_volume false = refl

@@ -2,5 +2,5 @@
 mod ScanLemmas
 mod CountLemmas
 mod FilledLemmas
-mod NameLemmas
+mod NumberLemmas
 mod ChangedLemmas

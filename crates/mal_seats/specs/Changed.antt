@@ -10,9 +10,9 @@ OfSeat seats at P = (s : Seat) → slice_get seats at ≡ Some s → P s
 abbrev pub IsChanged : (Seat → Seat) → ℕ → List Seat → List Seat → Type 0
 IsChanged change at before after = (s : Seat) → slice_get before at ≡ Some s → after ≡ slice_set before at (change s)
 
--- a change of a seat leaves its job the key and the volume
+-- a change of a seat leaves its job the number and the volume
 pub record IsSteady (before after : Seat) : Type 0 where
-  pub key : after.job.titled.key ≡ before.job.titled.key
+  pub number : after.job.number ≡ before.job.number
   pub volume : after.job.titled.state.volume ≡ before.job.titled.state.volume
 
 -- the seat at a place made this step, and all others are as before

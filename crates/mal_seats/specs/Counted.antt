@@ -1,5 +1,5 @@
 -- What is counted of the jobs of a hall.
-use Rattle.std.specs.Prelude.{◌≡◌, ℕ, ◌+◌, ◌<◌, ◌≤◌, ◌^◌, Bool, ◌&&◌, not, List, count_by, if◌then◌else◌}
+use Rattle.std.specs.Prelude.{◌≡◌, ℕ, ◌+◌, ◌<◌, ◌≤◌, ◌^◌, Bool, false, ◌&&◌, not, List, count_by, if◌then◌else◌}
 use Rattle.spec_hall.specs.Seats.{Seat, has_changed, is_live_seat}
 use Rattle.mal_seats.specs.Filled.{filled_in}
 use Rattle.mal_seats.specs.declared.counts.Counts.{Counts}
@@ -16,6 +16,10 @@ is_unfinished s = not (s.job.titled.state.closed && not (is_live_seat s))
 -- what is counted of a job
 abbrev pub marks_of : Seat → Marks
 marks_of s = record { changed = has_changed s; unfinished = is_unfinished s }
+
+-- the marks of what is not counted
+abbrev pub no_marks : Marks
+no_marks = record { changed = false; unfinished = false }
 
 -- how many jobs were changed so that a balancing is due, how many are not closed or not answered, and which have a
 -- volume

@@ -1,5 +1,5 @@
 -- The jobs that have a volume.
-use Rattle.std.specs.Prelude.{ℕ, ◌+◌, Bool, false, nat_lt, List, [], ◌∷◌, slice_get, Option, Some, None, if◌then◌else◌}
+use Rattle.std.specs.Prelude.{ℕ, ◌+◌, ◌-◌, Bool, false, not, ◌==◌, nat_lt, List, [], ◌∷◌, map, filter, slice_get, Option, Some, None, if◌then◌else◌}
 use Rattle.std.specs.Option.{option_map_or}
 use Rattle.spec_job.specs.SoloMachine.{is_exchange_due}
 use Rattle.spec_hall.specs.Seats.{Seat, pick_job}
@@ -35,3 +35,11 @@ is_due_at seats at = option_map_or (λ s. is_exchange_due s.job.titled.state) (s
 abbrev pub first_among : List Seat → List ℕ → Option ℕ
 first_among seats [] = None
 first_among seats (at ∷ places) = if is_due_at seats at then Some at else first_among seats places
+
+-- a place after the seat at another one is gone
+abbrev pub moved_up : ℕ → ℕ → ℕ
+moved_up gone at = if nat_lt gone at then at - 1 else at
+
+-- places without one that is gone, those behind it one less
+abbrev pub closed_up : ℕ → List ℕ → List ℕ
+closed_up gone places = map (moved_up gone) (filter (λ at. not (at == gone)) places)

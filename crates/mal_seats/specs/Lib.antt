@@ -1,5 +1,6 @@
 pub mod Changed
+pub mod Coming
 pub mod Counted
 pub mod Filled
-pub mod Named
+pub mod Numbered
 pub mod Kept

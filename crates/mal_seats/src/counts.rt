@@ -1,13 +1,25 @@
 //! What is counted of the jobs of a hall.
 
 ghost use Rattle.std.specs.Prelude.{◌≡◌, ◌+◌, ◌<◌, ◌≤◌, ◌^◌};
-ghost use Rattle.mal_seats.specs.Counted.{AreRecounted, IsAmong, one};
+ghost use Rattle.mal_seats.specs.Counted.{AreRecounted, IsAmong, no_marks, one};
 
 /// Whether a job was changed so that a balancing is due, and whether it is not closed or not answered.
 #[derive(Clone, Copy)]
 pub struct Marks {
     pub changed: bool,
     pub unfinished: bool,
+}
+
+impl Marks {
+    /// No mark.
+    fn none() -> Marks
+        ensures { result ≡ no_marks }
+    {
+        Marks {
+            changed: false,
+            unfinished: false,
+        }
+    }
 }
 
 /// How many jobs have each mark.
@@ -25,6 +37,22 @@ impl Counts {
     {
         self.changed = recounted(self.changed, before.changed, after.changed);
         self.unfinished = recounted(self.unfinished, before.unfinished, after.unfinished);
+    }
+
+    /// Counts one job more, which has these marks.
+    pub fn add(&mut self, marks: Marks)
+        requires { IsAmong no_marks self.old }
+        ensures { AreRecounted no_marks marks self.old self.new }
+    {
+        self.change(Marks::none(), marks);
+    }
+
+    /// Counts one job less, which had these marks.
+    pub fn take_away(&mut self, marks: Marks)
+        requires { IsAmong marks self.old }
+        ensures { AreRecounted marks no_marks self.old self.new }
+    {
+        self.change(marks, Marks::none());
     }
 }
 

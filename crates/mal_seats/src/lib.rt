@@ -3,7 +3,7 @@
 
 mod counts;
 mod filled;
-mod names;
+mod numbers;
 mod scheduler;
 mod seat;
 mod seats;

@@ -6,7 +6,7 @@ ghost use Rattle.mal_job.specs.Finishing.{outcome_of, MayFinish};
 ghost use Rattle.spec_job.specs.{SoloMachine.{Revised, Reasked, Closed, Finished, Exchanged, is_exchange_due, place_at, startable, clauses_in}, Viewed.{and_own, and_start, IsLeaseOf, IsBack}};
 ghost use Rattle.spec_hall.specs.{Dressed.{keyed}, Own.{is_key}};
 ghost use Rattle.spec_hall.specs.Seats as spec;
-ghost use Rattle.mal_seats.specs.Counted.{is_unfinished, marks_of};
+ghost use Rattle.mal_seats.specs.{Coming.{seat_of}, Counted.{is_unfinished, marks_of}};
 
 use crate::counts::Marks;
 use mal_base::{Ask, Name, Weight};
@@ -65,11 +65,36 @@ impl Seat {
         })
     }
 
+    /// The seat of a job that no balancing has listed.
+    pub(crate) fn of(alloc: Global, job: Job) -> Result<Seat, AllocError>
+        ensures { IfOk result (λ s. s ≡ seat_of job) }
+    {
+        let none = Share {
+            tenant: job.tenant(),
+            job: job.name(),
+            volume: 0,
+        };
+        let noted = job.ask();
+        Ok(Seat {
+            job,
+            listed: false,
+            noted,
+            none: Arc::new(alloc, none)?,
+        })
+    }
+
     /// The job.
     pub fn job(&self) -> &Job
         ensures { result.now ≡ self.now.job }
     {
         &self.job
+    }
+
+    /// The job's number.
+    pub fn number(&self) -> u64
+        ensures { result ≡ self.now.job.number }
+    {
+        self.job.number()
     }
 
     /// Whether the job has this key.

@@ -1,38 +1,38 @@
 //! The seats of a hall, with what saves going over all of them.
 
-ghost use Rattle.std.specs.Prelude.{◌≡◌, ℕ, ◌+◌, ◌<◌, ◌≤◌, ◌^◌, [], ◌∷◌, ◌++◌, true, not, length, slice_index_or, None, IfOk, OnOk, OnErr};
-ghost use Rattle.std.specs.{Fn.{FnOnceReturnsAtMut, FnOnceTakesAtMut}, List.{list_all}};
+ghost use Rattle.std.specs.Prelude.{◌≡◌, ℕ, ◌+◌, ◌<◌, ◌≤◌, ◌^◌, [], ◌∷◌, ◌++◌, true, not, length, slice_index_or, IfOk, OnOk, OnErr};
+ghost use Rattle.std.specs.{Fn.{FnOnceReturnsAtMut, FnOnceTakesAtMut}, List.{list_all, remove}};
 ghost use Rattle.mal_job.specs.Finishing.{outcome_of, MayFinish};
-ghost use Rattle.mal_seats.specs.{Changed.{OfSeat, IsChanged, IsSteady, HasStepped}, Named.{keys_in}};
+ghost use Rattle.mal_seats.specs.{Changed.{OfSeat, IsChanged, IsSteady, HasStepped}, Coming.{seat_of}, Numbered.{IsAbove, place_numbered}};
 ghost use Rattle.spec_balance.specs.Fair.{IsFair, volume_at};
 ghost use Rattle.spec_job.specs.{SoloMachine.{Revised, Reasked, Closed, Finished, Exchanged, startable, clauses_in}, Viewed.{and_own, and_start, IsLeaseOf}};
 ghost use Rattle.spec_hall.specs.{Dressed.{keyed}, States.{live_asks}};
 ghost use Rattle.spec_hall.specs.Driven as driven;
-ghost use Rattle.spec_hall.specs.Legal as legal;
 ghost use Rattle.spec_hall.specs.Seats as spec;
 
 use crate::counts::Counts;
-use crate::filled::first_among;
-use crate::names::Names;
+use crate::filled::{close_up, first_among};
+use crate::numbers::place_of_number;
 use crate::scheduler::{Candidate, pick_among};
 use crate::seat::Seat;
 use crate::volumes::{balance, filled_by, shares, volumes};
 use mal_base::{Ask, Name, Weight};
 use mal_history::Shares;
+use mal_job::Job;
 use mal_revision::Revision;
 use mal_suspend::{Done, Lease};
 use std::alloc::{AllocError, Global};
 use std::marker::Model;
 
-/// The jobs of a hall in their seats, by opening. The type keeps beside them how many were changed so that a balancing
-/// is due, how many are not closed or not answered, the places of those that have a volume, and the names: what is due,
-/// which node starts next and where a job sits is found without going over all jobs. Contracts see the seats.
+/// The jobs of a hall in their seats, by opening or last arrival. The type keeps that their numbers rise, and beside them
+/// how many were changed so that a balancing is due, how many are not closed or not answered, and the places of those
+/// that have a volume: what is due, which node starts next and where a job sits is found without going over all jobs.
+/// Contracts see the seats.
 #[derive(Drop)]
 pub struct Seats {
     seats: Vec<Seat>,
     counts: Counts,
     filled: Vec<usize>,
-    names: Names,
 }
 
 impl Model for Seats {
@@ -44,7 +44,7 @@ impl Model for Seats {
 
     ghost view = { λ s. s.seats.items };
 
-    ghost invariant = { λ s. AreKept s.seats.items s.counts s.filled.items s.names.places s.names.tenants };
+    ghost invariant = { λ s. AreKept s.seats.items s.counts s.filled.items };
 }
 
 impl Seats {
@@ -59,7 +59,6 @@ impl Seats {
                 unfinished: 0,
             },
             filled: Vec::new(alloc),
-            names: Names::new(alloc),
         }
     }
 
@@ -79,18 +78,11 @@ impl Seats {
         &self.seats[place]
     }
 
-    /// The place of the job with this key.
-    pub fn place_of(&self, tenant: Name, job: Name) -> Option<usize>
-        ensures { result ≡ spec.place_of (keyed tenant job) self.now }
+    /// The place of the job that has this number.
+    pub fn place_of_number(&self, number: u64) -> Option<usize>
+        ensures { result ≡ place_numbered number self.now }
     {
-        self.names.place_of(tenant, job)
-    }
-
-    /// How many jobs a tenant has.
-    pub fn jobs_of(&self, tenant: Name) -> usize
-        ensures { result ≡ legal.jobs_of tenant (keys_in self.now) }
-    {
-        self.names.jobs_of(tenant)
+        place_of_number(&self.seats, number)
     }
 
     /// Whether a balancing is due.
@@ -161,33 +153,63 @@ impl Seats {
         Ok(())
     }
 
-    /// Opens a job with a key that no other has. After want of memory the seats are as before.
-    pub fn open(&mut self, tenant: Name, job: Name, ask: Ask) -> Result<(), AllocError>
-        requires { spec.place_of (keyed tenant job) self.old ≡ None }
-        ensures ok { OnOk result
-            (self.new ≡ self.old ++ spec.opened_seat (length self.old) (keyed tenant job) ask ∷ []) }
+    /// Opens a job under a number above all others. After want of memory the seats are as before.
+    pub fn open(&mut self, number: u64, tenant: Name, job: Name, ask: Ask) -> Result<(), AllocError>
+        requires { IsAbove number self.old }
+        ensures ok { OnOk result (self.new ≡ self.old ++ spec.opened_seat number (keyed tenant job) ask ∷ []) }
         ensures err { OnErr result (self.new ≡ self.old) }
     {
-        let alloc = *self.seats.allocator();
-        let place = self.seats.len();
+        let seat = match Seat::fresh(*self.seats.allocator(), number, tenant, job, ask) {
+            Ok(seat) => seat,
+            Err(_) => return Err(AllocError),
+        };
+        self.push(seat)
+    }
+
+    /// Takes a job in that comes with a number above all others and without a volume. After want of memory the seats are
+    /// as before.
+    pub fn admit(&mut self, job: Job) -> Result<(), AllocError>
+        requires above { IsAbove job.number self.old }
+        requires still { job.titled.state.volume ≡ 0 }
+        ensures ok { OnOk result (self.new ≡ self.old ++ seat_of job ∷ []) }
+        ensures err { OnErr result (self.new ≡ self.old) }
+    {
+        let seat = match Seat::of(*self.seats.allocator(), job) {
+            Ok(seat) => seat,
+            Err(_) => return Err(AllocError),
+        };
+        self.push(seat)
+    }
+
+    /// Puts a seat behind all others, of a job that has no volume. After want of memory the seats are as before.
+    fn push(&mut self, seat: Seat) -> Result<(), AllocError>
+        requires above { IsAbove seat.job.number self.old }
+        requires still { seat.job.titled.state.volume ≡ 0 }
+        ensures ok { OnOk result (self.new ≡ self.old ++ seat ∷ []) }
+        ensures err { OnErr result (self.new ≡ self.old) }
+    {
         match self.seats.reserve(1) {
             Ok(()) => {}
             Err(_) => return Err(AllocError),
         }
-        let seat = match Seat::fresh(alloc, place as u64, tenant, job, ask) {
-            Ok(seat) => seat,
-            Err(_) => return Err(AllocError),
-        };
-        match self.names.note(tenant, job, place) {
-            Ok(()) => {}
-            Err(_) => return Err(AllocError),
-        }
+        let marks = seat.marks();
+        self.counts.add(marks);
         self.seats.push_reserved(seat);
-        self.counts.unfinished += 1;
         Ok(())
     }
 
-    /// Changes the seat at a place so that its job keeps its name and its volume, and counts the job anew.
+    /// Lets the job at a place go. Takes no memory.
+    pub fn leave(&mut self, at: usize)
+        requires { at < length self.old }
+        ensures { self.new ≡ remove self.old at }
+    {
+        let seat = self.seats.remove(at);
+        let marks = seat.marks();
+        self.counts.take_away(marks);
+        close_up(&mut self.filled, at);
+    }
+
+    /// Changes the seat at a place so that its job keeps its number and its volume, and counts the job anew.
     fn change<T, F: FnOnce(&mut Seat) -> T>(&mut self, at: usize, step: F) -> T
         requires place { at < length self.old }
         requires may { OfSeat self.old at (λ s. FnOnceTakesAtMut F.FnOnce step s) }

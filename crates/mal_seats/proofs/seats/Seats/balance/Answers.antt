@@ -2,7 +2,7 @@ use Rattle.std.proofs.Common.{◌≡◌, length, ap, ◌∙◌, arith}
 use Rattle.spec_hall.specs.Seats.{balanced_by}
 use Rattle.mal_seats.specs.Filled.{filled_in}
 use Rattle.mal_seats.proofs.ChangedLemmas.{kept-balance, written-back}
-use Rattle.mal_seats.proofs.NameLemmas.{named-balanced}
+use Rattle.mal_seats.proofs.NumberLemmas.{rise-balanced}
 use Rattle.mal_seats.proofs.seats.Seats.balance.Goals as goal
 
 pub invariant_of-self : goal.invariant_of-self
@@ -12,7 +12,7 @@ invariant_of-self c =
     let filled : c.in-Ok.filled.items ≡ filled_in (balanced_by c.args.volumes.now c.self.inside.seats.items) = rw c.deref.ensures.value at c.in-Ok.ensures in
     rw (written-back c.self.inside.seats.items c.balance.new.seats c.self.inside.seats.len c.args.volumes.now len now) (record {
       counted = kept-balance c.self.inside.seats.items c.args.volumes.now _ _ _ c.self.invariant.counted filled;
-      named = named-balanced c.self.inside.seats.items _ _ c.args.volumes.now c.self.invariant.named;
+      rising = rise-balanced c.args.volumes.now c.self.inside.seats.items c.self.invariant.rising;
     })
 
 pub returns-clause-ok : goal.returns-clause-ok

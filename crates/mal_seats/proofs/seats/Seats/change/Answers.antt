@@ -21,4 +21,4 @@ invariant_of-self g c =
     let gave : FnOnceReturnsAtMut g.F.FnOnce c.args.step c.index_mut-seat.result.now c.step-result.result c.step-result.new.arg2 = record { shown = _; shows = refl; left = _; met = c.step-result.ensures; leaves = refl } in
     let steady = rw (← c.self.view_is) at c.requires.steady in
     let are = rw (c.marks-before.ensures, c.marks-after.ensures) at c.change.ensures in
-    kept-change c.self.inside.seats.items _ _ _ _ c.args.at c.index_mut-seat.result.now c.step-result.new.arg2 _ c.self.invariant there (steady c.index_mut-seat.result.now there c.step-result.result c.step-result.new.arg2 gave) are
+    kept-change c.self.inside.seats.items _ _ c.args.at c.index_mut-seat.result.now c.step-result.new.arg2 _ c.self.invariant there (steady c.index_mut-seat.result.now there c.step-result.result c.step-result.new.arg2 gave) are

@@ -4,10 +4,10 @@ use Rattle.spec_job.specs.SoloMachine.{Finished}
 use Rattle.spec_job.specs.Viewed.{and_own}
 use Rattle.spec_job.proofs.StepLemmas.{finish-keeps}
 use Rattle.mal_seats.proofs.FilledLemmas.{volume_of}
-use Rattle.mal_seats.proofs.NameLemmas.{key_of}
+use Rattle.mal_seats.proofs.NumberLemmas.{number_of}
 use Rattle.mal_seats.proofs.seats.Seats.finish.Goals as goal
 
 pub change-requires-clause-steady : goal.change-requires-clause-steady
 change-requires-clause-steady c = λ s there r now gave.
     let is : now ≡ record s { job = and_own s.job (Finished c.args.index (outcome_of c.args.back)) } = search rules in
-    record { key = ap key_of is; volume = ap volume_of is ∙ (finish-keeps s.job.titled.state c.args.index (outcome_of c.args.back)).volume }
+    record { number = ap number_of is; volume = ap volume_of is ∙ (finish-keeps s.job.titled.state c.args.index (outcome_of c.args.back)).volume }
