@@ -32,16 +32,17 @@ use Rattle.mal_base.specs.declared.hall_fault.ReviseFault.{ReviseFault}
 use Rattle.mal_base.specs.declared.hall_fault.ReaskFault.{ReaskFault}
 use Rattle.spec_hall.proofs.DecidedCallLemmas.{call-is_decided}
 use Rattle.spec_hall.proofs.DrivenLemmas.{balances-decided, nodes-decided}
-use Rattle.mal_hall.proofs.HallLemmas.{spot-tag}
+use Rattle.mal_hall.proofs.NumberLemmas.{spot-sits}
+use Rattle.mal_seats.specs.Numbered.{place_numbered}
 use Rattle.mal_hall.proofs.InsideLemmas.{Stands, inside-finish, inside-start}
 use Rattle.spec_hall.proofs.KeyLemmas.{is_key-Decides}
 use Rattle.spec_hall.proofs.LeasesLemmas.{lease-worker}
-use Rattle.spec_hall.proofs.SeatLemmas.{seat_keys, seated-keys}
+use Rattle.spec_hall.proofs.SeatLemmas.{seated-keys}
 use Rattle.spec_hall.specs.Leases.{IsWorker}
 use Rattle.spec_hall.specs.Own.{is_key}
 use Rattle.spec_hall.specs.Seats.{Seat, is_live_seat, jobs_in}
-use Rattle.spec_hall.proofs.JournalLemmas.{spots-home}
-use Rattle.spec_hall.specs.Spots.{IsAt, Spot, Tag, tags_of}
+use Rattle.spec_hall.proofs.JournalLemmas.{IsSeatAt, held_at, spot-held, spots-home}
+use Rattle.spec_hall.specs.Spots.{IsAt, Spot, tags_of}
 use Rattle.mal_base.specs.declared.hall_fault.ApplyFault.{ApplyFault}
 
 -- a call that was refused is not one that might have been answered
@@ -261,28 +262,31 @@ held-other x worker index k spot hall is apart = no-test (λ e. other e)
         apart (ap (λ (h : LeaseOut). h.index) same)
 
 -- the key of the job at a spot
-spot-key : (x : Inside) (worker : ℕ) (spot : Spot) → IsHall x → (is : IsAt x.entries.events (tags_of x.seats) worker spot) → slice_get (keys_of x.entries.events) spot.job ≡ Some is.tag.key
-spot-key x worker spot hall is =
-    ap (λ (ks : List Key). slice_get ks spot.job) (seated-keys x.entries.events x.seats hall.seated.jobs ∙ tags-keys x.seats)
-    ∙ (slice_get-map (λ (t : Tag). t.key) (tags_of x.seats) spot.job ∙ ap (option_map (λ (t : Tag). t.key)) (spot-tag x worker spot hall is))
+spot-key : (x : Inside) (worker : ℕ) (spot : Spot) (at : ℕ) → IsHall x → (is : IsAt x.entries.events (tags_of x.seats) worker spot) → place_numbered spot.job x.seats ≡ Some at → slice_get (keys_of x.entries.events) at ≡ Some is.tag.key
+spot-key x worker spot at hall is placed =
+    let sits = spot-sits x.seats spot at placed in
+    keys-at x at hall ∙ (ap (option_map (λ (s : Seat). s.job.titled.key)) sits.1.is ∙ same sits.0 sits.1)
   where
-    tags-keys : (ss : List Seat) → seat_keys ss ≡ map (λ (t : Tag). t.key) (tags_of ss)
-    tags-keys [] = refl
-    tags-keys (s ∷ ss) = ap (λ (ks : List Key). s.job.titled.key ∷ ks) (tags-keys ss)
+    same : (s : Seat) → IsSeatAt x.seats spot at s → Some s.job.titled.key ≡ Some is.tag.key
+    same s there =
+        let one : LeaseOut = record { worker = worker; key = is.tag.key; index = spot.index } in
+        let both : Some (held_at s worker spot.index) ≡ Some one = sym (spot-held x.entries.workers x.entries.events x.seats x.spots at s worker spot hall.seated hall.spots there is) ∙ is.out in
+        let equal : held_at s worker spot.index ≡ one = cc in
+        ap (λ (h : LeaseOut). Some h.key) equal
 
-pub held-test : (x : Inside) (worker index : ℕ) (k : Key) (spot : Spot) (b : Bool) → IsHall x → IsAt x.entries.events (tags_of x.seats) worker spot → spot.index ≡ index → IsTrue b ↔ (slice_get (keys_of x.entries.events) spot.job ≡ Some k) → IsTrue b ↔ (lease_of worker (leases x.entries.events) ≡ Some (record { worker = worker; key = k; index = index }))
-held-test x worker index k spot b hall is same test = (λ t. yes (test.0 t), λ e. test.1 (no e))
+pub held-test : (x : Inside) (worker index : ℕ) (k : Key) (spot : Spot) (p : Option ℕ) (at : ℕ) (b : Bool) → IsHall x → IsAt x.entries.events (tags_of x.seats) worker spot → spot.index ≡ index → p ≡ place_numbered spot.job x.seats → p ≡ Some at → IsTrue b ↔ (slice_get (keys_of x.entries.events) at ≡ Some k) → IsTrue b ↔ (lease_of worker (leases x.entries.events) ≡ Some (record { worker = worker; key = k; index = index }))
+held-test x worker index k spot p at b hall is same scan place test = (λ t. yes (test.0 t), λ e. test.1 (no e))
   where
-    here : slice_get (keys_of x.entries.events) spot.job ≡ Some is.tag.key
-    here = spot-key x worker spot hall is
+    here : slice_get (keys_of x.entries.events) at ≡ Some is.tag.key
+    here = spot-key x worker spot at hall is (sym scan ∙ place)
 
-    yes : slice_get (keys_of x.entries.events) spot.job ≡ Some k → lease_of worker (leases x.entries.events) ≡ Some (record { worker = worker; key = k; index = index })
+    yes : slice_get (keys_of x.entries.events) at ≡ Some k → lease_of worker (leases x.entries.events) ≡ Some (record { worker = worker; key = k; index = index })
     yes e =
         let both : Some is.tag.key ≡ Some k = sym here ∙ e in
         let key : is.tag.key ≡ k = cc in
         is.out ∙ (ap (λ (j : Key). let o : Option LeaseOut = Some (record { worker = worker; key = j; index = spot.index }) in o) key ∙ ap (λ (n : ℕ). let o : Option LeaseOut = Some (record { worker = worker; key = k; index = n }) in o) same)
 
-    no : lease_of worker (leases x.entries.events) ≡ Some (record { worker = worker; key = k; index = index }) → slice_get (keys_of x.entries.events) spot.job ≡ Some k
+    no : lease_of worker (leases x.entries.events) ≡ Some (record { worker = worker; key = k; index = index }) → slice_get (keys_of x.entries.events) at ≡ Some k
     no e =
         let one : LeaseOut = record { worker = worker; key = is.tag.key; index = spot.index } in
         let two : LeaseOut = record { worker = worker; key = k; index = index } in

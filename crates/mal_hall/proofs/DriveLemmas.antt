@@ -15,6 +15,7 @@ use Rattle.spec_hall.specs.Driven.{GrowsByTurns, IsAtEnd, IsIdle, is_done, was_l
 use Rattle.spec_hall.specs.Events.{Event, Start, Finish}
 use Rattle.spec_hall.specs.Leases.{lease_adds, lease_journal}
 use Rattle.spec_hall.specs.Legal.{Legal}
+use Rattle.spec_hall.specs.Turns.{HasWaited, IsSlice}
 use Rattle.spec_hall.specs.States.{LeaseOut, lease_of, leases, lives, states}
 use Rattle.spec_hall.proofs.GoesOnLemmas.{end-answered}
 use Rattle.spec_hall.proofs.PushLemmas.{leases-push}
@@ -31,6 +32,7 @@ pub record HasStopped (w : ℕ) (past now : List Event) : Type 0 where
   pub rested : HasRested w past now
   pub end : IsAtEnd now
   pub answered : lives (states now) ≡ []
+  pub waited : HasWaited w past now
 
 -- something is left where nothing is out and it is not over
 left-over : (past : List Event) → leases past ≡ [] → is_over past ≡ false → is_done (states past) ≡ false
@@ -55,7 +57,7 @@ idle-stopped w past now some bound legal home called =
     let out : leases now ≡ [] = ap leases called.grown ∙ (due-leases past called.events called.call.due.kinds ∙ home) in
     let end : IsAtEnd now = inr (subst IsIdle (sym called.grown) called.call.idle) in
     let whole : Legal w now = subst (Legal w) (sym called.grown) (due-legal w past called.events legal called.call.due) in
-    record { rested = record { turns = subst (GrowsByTurns w past) (sym called.grown) turned.turns; home = out }; end = end; answered = end-answered w now some bound whole out end }
+    record { rested = record { turns = subst (GrowsByTurns w past) (sym called.grown) turned.turns; home = out }; end = end; answered = end-answered w now some bound whole out end; waited = inl called }
 
 pub done-stopped : (w : ℕ) (past now : List Event) → 1 ≤ w → w ≤ 64 → Legal w past → leases past ≡ [] → HasCalled w past (Picks 1) (Ok calls.AllDone) now → HasStopped w past now
 done-stopped w past now some bound legal home called =
@@ -63,7 +65,7 @@ done-stopped w past now some bound legal home called =
     let parts = and_parts (is_done (states past)) (length (leases past) == 0) called.call.0 in
     let end : IsAtEnd now = inl (ap (λ (h : List Event). is_done (states h)) same ∙ parts.0) in
     let out : leases now ≡ [] = ap leases same ∙ home in
-    record { rested = record { turns = subst (GrowsByTurns w past) (sym same) (turns-none w past); home = out }; end = end; answered = end-answered w now some bound (subst (Legal w) (sym same) legal) out end }
+    record { rested = record { turns = subst (GrowsByTurns w past) (sym same) (turns-none w past); home = out }; end = end; answered = end-answered w now some bound (subst (Legal w) (sym same) legal) out end; waited = inr called }
 
 -- what comes of a lease is of it
 grown-by : (o : Outcome) (l : Leased) (d : Finished) → Becomes o l d → IsGrownBy o l.adds l.journal d.journal
@@ -76,8 +78,13 @@ not-lost Ran l d b = refl
 not-lost Starved l d b = refl
 not-lost Lost l d b = absurd b
 
+-- a turn in which a lease was worked off
+record HasSliced (w : ℕ) (past now : List Event) : Type 0 where
+  worked : HasWorked w past now
+  slice : IsSlice w past now
+
 -- a lease of the first worker, worked off and taken back
-turn-done : (v w : ℕ) (past middle now : List Event) (lease : Leased) (d : Finished) (answer : Return) → v ≡ w → 1 ≤ w → w ≤ 64 → Legal w past → leases past ≡ [] → HasCalled w past (Picks 1) (Ok (calls.Leased (handed_of lease))) middle → d.worker ≡ lease.worker → Becomes d.outcome lease d → HasCalled v middle (Finishes d) answer now → HasWorked w past now
+turn-done : (v w : ℕ) (past middle now : List Event) (lease : Leased) (d : Finished) (answer : Return) → v ≡ w → 1 ≤ w → w ≤ 64 → Legal w past → leases past ≡ [] → HasCalled w past (Picks 1) (Ok (calls.Leased (handed_of lease))) middle → d.worker ≡ lease.worker → Becomes d.outcome lease d → HasCalled v middle (Finishes d) answer now → HasSliced w past now
 turn-done v w past middle now lease d answer same some bound legal home called worker becomes given = by_answer answer given
   where
     is : IsStarting w past 1 (handed_of lease) called.events
@@ -110,14 +117,17 @@ turn-done v w past middle now lease d answer same some bound legal home called w
       journal = subst (λ (j : Journaled). IsGrownBy d.outcome (lease_adds middle held) j d.journal) journal (subst (λ (es : List JournalEntry). IsGrownBy d.outcome es lease.journal d.journal) adds (grown-by d.outcome lease d becomes));
     }
 
-    by_answer : (r : Return) → HasCalled v middle (Finishes d) r now → HasWorked w past now
+    by_answer : (r : Return) → HasCalled v middle (Finishes d) r now → HasSliced w past now
     by_answer Back back =
         let l : LeaseOut = back.call.0 in
         let both : Some l ≡ Some held = sym back.call.1.out ∙ mine in
         let equal : l ≡ held = cc in
         let ends : now ≡ middle ++ Finish is.key is.index 1 d.outcome ∷ [] = back.grown ∙ (ap (λ (es : List Event). middle ++ es) back.call.2 ∙ (ap (λ (h : LeaseOut). middle ++ Finish h.key h.index d.worker d.outcome ∷ []) equal ∙ ap (λ (n : ℕ). middle ++ Finish is.key is.index n d.outcome ∷ []) first)) in
         let all : now ≡ ((past ++ is.due) ++ Start is.key is.index 1 ∷ []) ++ Finish is.key is.index 1 d.outcome ∷ [] = ends ∙ ap (λ (h : List Event). h ++ Finish is.key is.index 1 d.outcome ∷ []) whole in
-        subst (HasWorked w past) (sym all) (turn-worked w past is.due is.key is.index d.outcome some bound legal home (left-over past home is.may.more) (not-lost d.outcome lease d becomes) is.first is.start)
+        record {
+          worked = subst (HasWorked w past) (sym all) (turn-worked w past is.due is.key is.index d.outcome some bound legal home (left-over past home is.may.more) (not-lost d.outcome lease d becomes) is.first is.start);
+          slice = record { lease = handed_of lease; mid = middle; picked = called; out = held; is_out = ap (lease_of 1) out; outcome = d.outcome; came = not-lost d.outcome lease d becomes; grown = ends };
+        }
     by_answer (Strange kept) strange = absurd (strange.call.0 held of_lease)
 
 -- turns behind turns of as many workers
@@ -126,14 +136,15 @@ turns-behind v w a b c same one two = turns-more w a b c one (subst (λ (x : ℕ
 
 -- what a turn leaves that nothing came of
 pub rested-turn : {E : Type 0} (w : ℕ) (past now : List Event) (e : E) → HasRested w past now → IsTurn w past (Err e) now
-rested-turn w past now e rested = record { turns = rested.turns; home = rested.home; end = tt; answered = tt; less = tt }
+rested-turn w past now e rested = record { turns = rested.turns; home = rested.home; end = tt; answered = tt; less = tt; slice = tt; waited = tt }
 
 -- one that found nothing left to do
 pub stopped-turn : {E : Type 0} (w : ℕ) (past now : List Event) → HasStopped w past now → IsTurn {E = E} w past (Ok false) now
-stopped-turn w past now stopped = record { turns = stopped.rested.turns; home = stopped.rested.home; end = λ _. stopped.end; answered = λ _. stopped.answered; less = λ (e : false ≡ true). absurd (cc) }
+stopped-turn w past now stopped = record { turns = stopped.rested.turns; home = stopped.rested.home; end = λ _. stopped.end; answered = λ _. stopped.answered; less = λ (e : false ≡ true). absurd (cc); slice = λ (e : false ≡ true). absurd (cc); waited = λ _. stopped.waited }
 
 -- and one in which a lease was worked off
 pub worked-turn : {E : Type 0} (v w : ℕ) (past middle now : List Event) (lease : Leased) → v ≡ w → 1 ≤ w → w ≤ 64 → Legal w past → leases past ≡ [] → HasCalled w past (Picks 1) (Ok (calls.Leased (handed_of lease))) middle → HasWorkedOff v middle lease now → IsTurn {E = E} w past (Ok true) now
 worked-turn v w past middle now lease same some bound legal home called off =
-    let worked = turn-done v w past middle now lease off.done off.answer same some bound legal home called off.worker off.becomes off.given in
-    record { turns = worked.turns; home = worked.home; end = λ (e : true ≡ false). absurd (cc); answered = λ (e : true ≡ false). absurd (cc); less = λ _. worked.less }
+    let sliced = turn-done v w past middle now lease off.done off.answer same some bound legal home called off.worker off.becomes off.given in
+    let worked = sliced.worked in
+    record { turns = worked.turns; home = worked.home; end = λ (e : true ≡ false). absurd (cc); answered = λ (e : true ≡ false). absurd (cc); less = λ _. worked.less; slice = λ _. sliced.slice; waited = λ (e : true ≡ false). absurd (cc) }

@@ -1,4 +1,4 @@
-use Rattle.std.proofs.Common.{◌≡◌, ℕ, ◌+◌, ◌≤◌, Bool, true, false, not, ◌==◌, if◌then◌else◌, List, [], ◌∷◌, ◌++◌, slice_get, slice_set, Some, refl, sym, ◌∙◌, ap, arith}
+use Rattle.std.proofs.Common.{◌≡◌, ℕ, ◌+◌, ◌≤◌, Bool, true, false, not, ◌||◌, ◌==◌, if◌then◌else◌, List, [], ◌∷◌, ◌++◌, slice_get, slice_set, Some, refl, sym, ◌∙◌, ap, arith}
 use Rattle.std.proofs.lemmas.Bool.Decides.{Decides-eqb}
 use Rattle.std.proofs.lemmas.List.{set-get_or}
 use Rattle.std.proofs.lemmas.List.Sums.{sum_by-cons, sum_by-append, sum_by-set}
@@ -7,9 +7,11 @@ use Rattle.mal_base.specs.Asks.{Terms}
 use Rattle.spec_balance.specs.Fair.{volume_at}
 use Rattle.spec_job.specs.KeyedJob.{Key}
 use Rattle.spec_hall.specs.Legal.{jobs_of, tenant_count}
-use Rattle.spec_hall.specs.Own.{is_text}
+use Rattle.std.specs.List.{list_any}
+use Rattle.spec_hall.specs.Own.{is_key, is_text}
+use Rattle.spec_hall.specs.States.{with_key}
 use Rattle.spec_hall.specs.Seats.{Seat, is_live_seat, opened_seat, balanced_seat, balanced_from}
-use Rattle.spec_hall.proofs.KeyLemmas.{is_text-Decides}
+use Rattle.spec_hall.proofs.KeyLemmas.{is_key-Decides, is_text-Decides}
 use Rattle.mal_hall.specs.HallView.{unclosed_in}
 
 -- what a job counts among those of a tenant
@@ -28,11 +30,11 @@ first_of-some n some = by_test (0 == n) refl
     by_test false e = rw e refl
 
 -- a further job is one more of its tenant
-jobs_of-push : (tenant : List ℕ) (ts : List Key) (u : Key) → jobs_of tenant (ts ++ u ∷ []) ≡ jobs_of tenant ts + of_tenant tenant u
+pub jobs_of-push : (tenant : List ℕ) (ts : List Key) (u : Key) → jobs_of tenant (ts ++ u ∷ []) ≡ jobs_of tenant ts + of_tenant tenant u
 jobs_of-push tenant ts u = omega (arith, sum_by-append (of_tenant tenant) ts (u ∷ []), sum_by-cons (of_tenant tenant) u [])
 
 -- it is of a further tenant where its tenant has no jobs
-pub tenants-push : (ts : List Key) (u : Key) → tenant_count (ts ++ u ∷ []) ≡ tenant_count ts + first_of (jobs_of u.tenant ts)
+tenants-push : (ts : List Key) (u : Key) → tenant_count (ts ++ u ∷ []) ≡ tenant_count ts + first_of (jobs_of u.tenant ts)
 tenants-push [] u = refl
 tenants-push (t ∷ ts) u = by_test (tenants-push ts u) (is_text t.tenant u.tenant) (is_text u.tenant t.tenant) refl refl
   where
@@ -75,6 +77,27 @@ tenants-push (t ∷ ts) u = by_test (tenants-push ts u) (is_text t.tenant u.tena
       where
         differ : u.tenant ≡ t.tenant → ⊥
         differ same = let back = (is_text-Decides t.tenant u.tenant).1 (sym same) in cc
+
+-- a tenant with a name has one at least
+pub name-counts : (k : Key) (names : List Key) → list_any (is_key k) names ≡ true → 1 ≤ jobs_of k.tenant names
+name-counts k [] there = absurd (cc)
+name-counts k (x ∷ xs) there = by_test (is_key k x) refl there (name-counts k xs)
+  where
+    by_test : (b : Bool) → is_key k x ≡ b → (b || list_any (is_key k) xs) ≡ true → (list_any (is_key k) xs ≡ true → 1 ≤ jobs_of k.tenant xs) → 1 ≤ jobs_of k.tenant (x ∷ xs)
+    by_test true e f rest =
+        let same : k ≡ x = (is_key-Decides k x).0 e in
+        let text : is_text k.tenant x.tenant ≡ true = (is_text-Decides k.tenant x.tenant).1 (ap (λ (j : Key). j.tenant) same) in
+        let one : of_tenant k.tenant x ≡ 1 = ap (λ (b : Bool). if b then 1 else 0) text in
+        omega (arith, sum_by-cons (of_tenant k.tenant) x xs, one)
+    by_test false e f rest = omega (arith, sum_by-cons (of_tenant k.tenant) x xs, rest f)
+
+-- how many tenants there are with a name that may be new
+pub tenants-with : (names : List Key) (k : Key) → tenant_count (with_key k names) ≡ tenant_count names + first_of (jobs_of k.tenant names)
+tenants-with names k = by_test (list_any (is_key k) names) refl
+  where
+    by_test : (b : Bool) → list_any (is_key k) names ≡ b → tenant_count (if b then names else names ++ k ∷ []) ≡ tenant_count names + first_of (jobs_of k.tenant names)
+    by_test true e = omega (arith, first_of-some (jobs_of k.tenant names) (name-counts k names e))
+    by_test false e = tenants-push names k
 
 -- what a job counts among those that are not closed
 abbrev pub unclosed_at : Seat → ℕ

@@ -4,10 +4,15 @@ pub mod DriveLemmas
 mod Parts
 mod RoomLemmas
 mod EntryLemmas
+mod TellingLemmas
+mod NameLemmas
 mod KeptLemmas
+mod NumberLemmas
 mod HallLemmas
 mod LeaseLemmas
 mod PhaseLemmas
 mod RecallLemmas
 mod InsideLemmas
 mod ApplyLemmas
+mod LookingLemmas
+mod MovingLemmas

@@ -1,5 +1,5 @@
 -- What the parts of a hall say of its events, and what its parts do to them.
-use Rattle.std.proofs.Common.{◌≡◌, ℕ, zero, suc, ◌+◌, ◌-◌, ◌<◌, ◌≤◌, Bool, true, false, cond, ◌&&◌, ◌==◌, List, [], ◌∷◌, ◌++◌, length, get_or, slice_get, slice_set, Option, Some, None, Ok, Err, map, option_map, is_some, refl, sym, ◌∙◌, ap, subst, arith, append_assoc, append-nil}
+use Rattle.std.proofs.Common.{◌≡◌, ℕ, zero, suc, ◌+◌, ◌-◌, ◌<◌, ◌≤◌, Bool, true, false, cond, ◌&&◌, ◌||◌, ◌==◌, List, [], ◌∷◌, ◌++◌, length, get_or, slice_get, slice_set, Option, Some, None, Ok, Err, map, option_map, is_some, refl, sym, ◌∙◌, ap, subst, arith, append_assoc, append-nil}
 use Rattle.std.specs.Prelude.{IsTrue, MatchOption, nat_eq, ◌↔◌}
 use Rattle.std.specs.Option.{option_map_or}
 use Rattle.std.proofs.lemmas.Bool.{both_ways}
@@ -24,7 +24,7 @@ use Rattle.spec_hall.specs.Seats.{Seat, first_exchange, is_balancing_due, is_due
 use Rattle.spec_hall.specs.Spots.{Spot, IsAt, IsSpot, tags_of}
 use Rattle.spec_hall.specs.States.{Candidate, LeaseOut, candidates_from, titled, balanced, exchange_due, keys_of, lease_of, leases, lives, picked, states}
 use Rattle.spec_hall.proofs.BalanceLemmas.{balance-allowed}
-use Rattle.spec_hall.proofs.DueLemmas.{balancing-calm, seated-calm, seated-due}
+use Rattle.spec_hall.proofs.DueLemmas.{balancing-calm, balancing-due}
 use Rattle.spec_hall.proofs.ExchangeLemmas.{first-found, seated-no_exchange}
 use Rattle.spec_hall.proofs.JournalLemmas.{IsSeatAt, adds-of, back-lease, held_at, journal-of, lease-back, spot-held, spot-lease, spot-out, spots-home, zero-lease}
 use Rattle.spec_hall.proofs.LeasesLemmas.{start-free}
@@ -47,18 +47,20 @@ use Rattle.spec_hall.specs.Measure.{left_in}
 use Rattle.spec_hall.proofs.ArrangeLemmas.{balance-calm, due-more, exchange-calm}
 use Rattle.spec_hall.proofs.TurnLemmas.{arranged-left, due-leases, due-none}
 use Rattle.mal_hall.specs.Offered.{HasArranged, HasBalanced, HasEnded, HasExchanged, HasStarted, IsFirst, MayEnd, MayStartAt, handed_of}
-use Rattle.mal_hall.specs.HallView.{Inside, IsHall, out_in}
+use Rattle.mal_hall.specs.HallView.{Inside, IsHall, out_in, owed_in}
 use Rattle.mal_hall.specs.Turned.{IsBalancing}
-use Rattle.mal_hall.proofs.HallLemmas.{Grown, hall-balance, hall-exchange, hall-number, hall-stayed, of-seat, spot-tag}
+use Rattle.mal_hall.proofs.HallLemmas.{Grown, IsAsNoted, hall-balance, hall-exchange, of-seat}
+use Rattle.mal_hall.proofs.NumberLemmas.{spot-placed, spot-sits}
+use Rattle.mal_seats.specs.Numbered.{place_numbered}
 use Rattle.mal_seats.specs.Changed.{OfSeat}
 use Rattle.mal_hall.proofs.LeaseLemmas.{hall-finish, hall-start, out-left}
 
--- whether a balancing is due
-pub phase-due : (x : Inside) (b : Bool) → IsHall x → b ≡ is_due x.seats → b ≡ true → IsBalanceDue x.entries.events
-phase-due x b hall scan is = seated-due x.entries.workers x.entries.events x.seats hall.seated (sym scan ∙ is)
+-- whether a balancing is due: a job moved since the last one, or has changed
+pub phase-due : (x : Inside) (b : Bool) → IsHall x → b ≡ (x.moved || is_due x.seats) → b ≡ true → IsBalanceDue x.entries.events
+phase-due x b hall scan is = balancing-due x.entries.workers x.entries.events x.seats hall.seated (ap (λ (m : Bool). m || is_due x.seats) (sym hall.noted.moved_is) ∙ (sym scan ∙ is))
 
-pub phase-calm : (x : Inside) (b : Bool) → IsHall x → b ≡ is_due x.seats → b ≡ false → Some (lives (states x.entries.events)) ≡ balanced x.entries.events
-phase-calm x b hall scan is = let stayed = hall-stayed x hall in seated-calm x.entries.workers x.entries.events x.seats stayed.live hall.seated stayed.last (sym scan ∙ is)
+pub phase-calm : (x : Inside) (b : Bool) → IsHall x → b ≡ (x.moved || is_due x.seats) → b ≡ false → Some (lives (states x.entries.events)) ≡ balanced x.entries.events
+phase-calm x b hall scan is = balancing-calm x.entries.workers x.entries.events x.seats hall.seated (ap (λ (m : Bool). m || is_due x.seats) (sym hall.noted.moved_is) ∙ (sym scan ∙ is))
 
 -- a seat that there is
 pub seat-there : (ss : List Seat) (n : ℕ) → n < length ss → (s : Seat) × (slice_get ss n ≡ Some s)
@@ -112,11 +114,11 @@ pub record Balanced (x y : Inside) : Type 0 where
   pub hall : IsHall y
   pub has : HasBalanced x.entries.workers x.entries.events y.entries.events
 
-pub phase-balance : (x y : Inside) → IsHall x → IsBalanceDue x.entries.events → y.entries.workers ≡ x.entries.workers → IsBalancing x.entries y.entries x.seats y.seats → y.spots ≡ x.spots → y.starts ≡ x.starts → y.unclosed ≡ x.unclosed → y.tenants ≡ x.tenants → x.unclosed + out_in x.spots ≤ y.entries.room → Balanced x y
-phase-balance x y hall due workers b spots starts unclosed tenants room =
+pub phase-balance : (x y : Inside) → IsHall x → IsBalanceDue x.entries.events → y.entries.workers ≡ x.entries.workers → IsBalancing x.entries y.entries x.seats y.seats → y.spots ≡ x.spots → y.starts ≡ x.starts → y.unclosed ≡ x.unclosed → y.names ≡ x.names → y.tenants ≡ x.tenants → y.comings ≡ x.comings → y.moved ≡ false → owed_in x.unclosed x.seats x.spots ≤ y.entries.room → Balanced x y
+phase-balance x y hall due workers b spots starts unclosed names tenants comings moved room =
     let vs : List ℕ = b.volumes in
     let is : is_balancing_due x.entries.events x.seats ≡ true = due-is x hall due in
-    let grown = hall-balance x y vs hall is b.fair workers b.events b.seats spots starts unclosed tenants room in
+    let grown = hall-balance x y vs hall is b.fair workers b.events b.seats spots starts unclosed names tenants comings moved room in
     record { hall = grown.hall; has = record { shares = shares_by vs x.seats; grown = grown.events; allowed = balance-allowed x.entries.workers x.entries.events x.seats vs hall.seated b.fair is } }
 
 -- a job's place is one of the seats
@@ -139,11 +141,11 @@ pub record Exchanges (x y : Inside) : Type 0 where
   pub hall : IsHall y
   pub has : HasExchanged x.entries.workers x.entries.events y.entries.events
 
-pub phase-exchange : (x y : Inside) (at : ℕ) (s : Seat) → IsHall x → Some (lives (states x.entries.events)) ≡ balanced x.entries.events → IsFirst x.entries.events at → slice_get x.seats at ≡ Some s → y.entries.workers ≡ x.entries.workers → y.entries.events ≡ x.entries.events ++ Exchange s.job.titled.key ∷ [] → y.seats ≡ slice_set x.seats at (record s { job = and_own s.job Exchanged }) → y.spots ≡ x.spots → y.starts ≡ x.starts → y.unclosed ≡ x.unclosed → y.tenants ≡ x.tenants → x.unclosed + out_in x.spots ≤ y.entries.room → Exchanges x y
-phase-exchange x y at s hall calm first sits workers events seats spots starts unclosed tenants room =
+pub phase-exchange : (x y : Inside) (at : ℕ) (s : Seat) → IsHall x → Some (lives (states x.entries.events)) ≡ balanced x.entries.events → IsFirst x.entries.events at → slice_get x.seats at ≡ Some s → y.entries.workers ≡ x.entries.workers → y.entries.events ≡ x.entries.events ++ Exchange s.job.titled.key ∷ [] → y.seats ≡ slice_set x.seats at (record s { job = and_own s.job Exchanged }) → y.spots ≡ x.spots → y.starts ≡ x.starts → y.unclosed ≡ x.unclosed → IsAsNoted x y → owed_in x.unclosed x.seats x.spots ≤ y.entries.room → Exchanges x y
+phase-exchange x y at s hall calm first sits workers events seats spots starts unclosed noted room =
     let same : s.job.titled ≡ first.job = job-seat x at first.job s hall first.place sits in
     let may : Allowed x.entries.workers x.entries.events (Exchange s.job.titled.key) = (first.job, record { balance = calm; first = first.first; key = ap (λ (t : KeyedJob). t.key) (sym same) }) in
-    let grown = hall-exchange x y at s hall may sits workers events seats spots starts unclosed tenants room in
+    let grown = hall-exchange x y at s hall may sits workers events seats spots starts unclosed noted room in
     record { hall = grown.hall; has = record { key = s.job.titled.key; grown = grown.events; allowed = may } }
 
 -- the seat of a node that may be started
@@ -199,8 +201,8 @@ set-seat [] n s t e = absurd (cc)
 set-seat (x ∷ xs) zero s t e = refl
 set-seat (x ∷ xs) (suc n) s t e = set-seat xs n s t e
 
-pub phase-start : (x y : Inside) (at index worker start : ℕ) (s : Seat) (lease : Leased) → IsHall x → CanStart x at index worker s → IsLeaseOf s.job index start worker lease → start ≡ x.starts + 1 → y.entries.workers ≡ x.entries.workers → y.entries.events ≡ x.entries.events ++ Start s.job.titled.key index worker ∷ [] → y.seats ≡ slice_set x.seats at (record s { job = and_start s.job index start }) → y.spots ≡ slice_set x.spots (worker - 1) (Some (record { job = at; index = index; start = start })) → y.starts ≡ start → y.unclosed ≡ x.unclosed → y.tenants ≡ x.tenants → x.unclosed + out_in x.spots + 1 ≤ y.entries.room → HasBegun x y index worker lease
-phase-start x y at index worker start s lease hall can mine next workers events seats spots starts unclosed tenants room =
+pub phase-start : (x y : Inside) (at index worker start : ℕ) (s : Seat) (lease : Leased) → IsHall x → CanStart x at index worker s → IsLeaseOf s.job index start worker lease → start ≡ x.starts + 1 → y.entries.workers ≡ x.entries.workers → y.entries.events ≡ x.entries.events ++ Start s.job.titled.key index worker ∷ [] → y.seats ≡ slice_set x.seats at (record s { job = and_start s.job index start }) → y.spots ≡ slice_set x.spots (worker - 1) (Some (record { job = s.job.number; index = index; start = start })) → y.starts ≡ start → y.unclosed ≡ x.unclosed → IsAsNoted x y → owed_in x.unclosed x.seats x.spots + 1 ≤ y.entries.room → HasBegun x y index worker lease
+phase-start x y at index worker start s lease hall can mine next workers events seats spots starts unclosed noted room =
     record { hall = grown.hall; has = record { key = s.job.titled.key; grown = events_are; allowed = can.allowed; lease_is = lease_is } }
   where
     w : ℕ
@@ -213,13 +215,13 @@ phase-start x y at index worker start s lease hall can mine next workers events 
     low = omega (arith, can.allowed.1.some_worker, can.allowed.1.worker_bound)
 
     spot : Spot
-    spot = record { job = at; index = index; start = start }
+    spot = record { job = s.job.number; index = index; start = start }
 
     after : Seat
     after = reseated s (and_start s.job index start)
 
     grown : Grown x y (Start s.job.titled.key index (suc w) ∷ [])
-    grown = hall-start x y at s index w start hall can.seat low (subst (λ (v : ℕ). Allowed x.entries.workers x.entries.events (Start s.job.titled.key index v)) some can.allowed) next workers (subst (λ (v : ℕ). y.entries.events ≡ x.entries.events ++ Start s.job.titled.key index v ∷ []) some events) seats spots starts unclosed tenants room
+    grown = hall-start x y at s index w start hall can.seat low (subst (λ (v : ℕ). Allowed x.entries.workers x.entries.events (Start s.job.titled.key index v)) some can.allowed) next workers (subst (λ (v : ℕ). y.entries.events ≡ x.entries.events ++ Start s.job.titled.key index v ∷ []) some events) seats spots starts unclosed noted room
 
     events_are : y.entries.events ≡ x.entries.events ++ Start s.job.titled.key index worker ∷ []
     events_are = subst (λ (v : ℕ). y.entries.events ≡ x.entries.events ++ Start s.job.titled.key index v ∷ []) (sym some) grown.events
@@ -237,7 +239,7 @@ phase-start x y at index worker start s lease hall can mine next workers events 
     held = record { worker = worker; key = s.job.titled.key; index = index }
 
     journal : lease.journal ≡ lease_journal y.entries.events held
-    journal = mine.journal ∙ journal-of y.entries.workers y.entries.events y.seats y.spots at after worker spot grown.hall.seated grown.hall.spots (record { is = seat; number = hall-number x at s hall can.seat }) here
+    journal = mine.journal ∙ journal-of y.entries.workers y.entries.events y.seats y.spots at after worker spot grown.hall.seated grown.hall.spots (record { is = seat; number = refl }) here
 
     out : (place_at after.job.titled.state index).out ≡ Some (record { revision = current s.job.titled.state; adds = start_entries s.job.titled.state (place_at s.job.titled.state index) })
     out = ap (λ (p : NodeSlot). p.out) (places.set-here s.job.titled.state.places index _ (within (sits-at x.entries.events x.seats at s hall.seated.jobs can.seat)))
@@ -255,8 +257,8 @@ phase-start x y at index worker start s lease hall can mine next workers events 
         ∙ ap (λ (v : ℕ). let h : Handed = record { journal = lease_journal y.entries.events held; adds = lease_adds y.entries.events held; worker = v } in h) mine.worker)
 
 -- the seat of the lease at a spot
-pub record SpotSeat (x : Inside) (worker : ℕ) (spot : Spot) (s : Seat) : Type 0 where
-  pub seat : slice_get x.seats spot.job ≡ Some s
+pub record SpotSeat (x : Inside) (worker : ℕ) (spot : Spot) (at : ℕ) (s : Seat) : Type 0 where
+  pub seat : IsSeatAt x.seats spot at s
   pub is : IsAt x.entries.events (tags_of x.seats) worker spot
   pub taken : get_or x.spots (worker - 1) None ≡ Some spot
   pub worker_is : IsWorker x.entries.workers worker
@@ -273,34 +275,45 @@ spot-is x sp worker o spot hall same low scan is =
     let within : worker - 1 < x.entries.workers = omega (arith, taken-low x.spots (worker - 1) spot taken, hall.spots.count) in
     subst (λ (v : ℕ). IsAt x.entries.events (tags_of x.seats) v spot) (sym some) (spot-at x (worker - 1) spot hall within taken)
 
-pub spot-within : (x : Inside) (worker : ℕ) (spot : Spot) → IsHall x → IsAt x.entries.events (tags_of x.seats) worker spot → spot.job < length x.seats
-spot-within x worker spot hall is = below x.seats spot.job (spot-tag x worker spot hall is)
-  where
-    below : (ss : List Seat) (n : ℕ) → slice_get (tags_of ss) n ≡ Some is.tag → n < length ss
-    below [] n f = absurd (cc)
-    below (s ∷ ss) zero f = omega arith
-    below (s ∷ ss) (suc n) f = omega (arith, below ss n f)
+-- the number of a lease that is out has a place
+pub spot-there : (x : Inside) (worker : ℕ) (spot : Spot) (p : Option ℕ) → IsAt x.entries.events (tags_of x.seats) worker spot → p ≡ place_numbered spot.job x.seats → p ≡ None → ⊥
+spot-there x worker spot p is scan none = spot-placed x.entries.events x.seats worker spot is (sym scan ∙ none)
 
-pub spot-seat : (x : Inside) (sp : List (Option Spot)) (worker : ℕ) (o : Option Spot) (spot : Spot) (s : Seat) → IsHall x → sp ≡ x.spots → 1 ≤ worker → o ≡ get_or sp (worker - 1) None → o ≡ Some spot → s ≡ get_or x.seats spot.job s → SpotSeat x worker spot s
-spot-seat x sp worker o spot s hall same low scan found read =
+-- which is one of the seats
+pub spot-within : (x : Inside) (spot : Spot) (p : Option ℕ) (at : ℕ) → p ≡ place_numbered spot.job x.seats → p ≡ Some at → at < length x.seats
+spot-within x spot p at scan is = below x.seats at (spot-sits x.seats spot at (sym scan ∙ is)).0 (spot-sits x.seats spot at (sym scan ∙ is)).1.is
+  where
+    below : (ss : List Seat) (n : ℕ) (s : Seat) → slice_get ss n ≡ Some s → n < length ss
+    below [] n s f = absurd (cc)
+    below (x ∷ xs) zero s f = omega arith
+    below (x ∷ xs) (suc n) s f = omega (arith, below xs n s f)
+
+-- the seat that is read there is that of the spot
+pub spot-seat : (x : Inside) (sp : List (Option Spot)) (worker : ℕ) (o : Option Spot) (spot : Spot) (p : Option ℕ) (at : ℕ) (s : Seat) → IsHall x → sp ≡ x.spots → 1 ≤ worker → o ≡ get_or sp (worker - 1) None → o ≡ Some spot → p ≡ place_numbered spot.job x.seats → p ≡ Some at → s ≡ get_or x.seats at s → SpotSeat x worker spot at s
+spot-seat x sp worker o spot p at s hall same low scan found place there read =
     let is = spot-is x sp worker o spot hall same low scan found in
     let taken : get_or x.spots (worker - 1) None ≡ Some spot = ap (λ (os : List (Option Spot)). get_or os (worker - 1) None) (sym same) ∙ (sym scan ∙ found) in
     let within : worker - 1 < x.entries.workers = omega (arith, taken-low x.spots (worker - 1) spot taken, hall.spots.count) in
-    record { seat = read-seat x spot.job s (spot-within x worker spot hall is) read; is = is; taken = taken; worker_is = record { low = low; high = omega (arith, within, low) } }
-
--- the seat of a spot is that of the spot's number
-seat-of : (x : Inside) (worker : ℕ) (spot : Spot) (s : Seat) → IsHall x → SpotSeat x worker spot s → IsSeatAt x.seats spot spot.job s
-seat-of x worker spot s hall at = record { is = at.seat; number = hall-number x spot.job s hall at.seat }
+    let sits = spot-sits x.seats spot at (sym place ∙ there) in
+    let mine : slice_get x.seats at ≡ Some s = read-seat x at s (spot-within x spot p at place there) read in
+    let both : Some sits.0 ≡ Some s = sym sits.1.is ∙ mine in
+    let equal : sits.0 ≡ s = cc in
+    record {
+      seat = record { is = mine; number = ap (λ (t : Seat). t.job.number) (sym equal) ∙ sits.1.number };
+      is = is;
+      taken = taken;
+      worker_is = record { low = low; high = omega (arith, within, low) };
+    }
 
 -- what came back is of the lease at a spot, or is strange
-pub back-is : (x : Inside) (spot : Spot) (s : Seat) (d : Finished) → IsHall x → SpotSeat x d.worker spot s → IsBack s.job spot.index d → (l : LeaseOut) × IsOfLease x.entries.events d l
-back-is x spot s d hall at back = (held_at s d.worker spot.index, back-lease x.entries.workers x.entries.events x.seats x.spots spot.job s spot d hall.seated hall.spots (seat-of x d.worker spot s hall at) at.is back)
+pub back-is : (x : Inside) (spot : Spot) (n : ℕ) (s : Seat) (d : Finished) → IsHall x → SpotSeat x d.worker spot n s → IsBack s.job spot.index d → (l : LeaseOut) × IsOfLease x.entries.events d l
+back-is x spot n s d hall at back = (held_at s d.worker spot.index, back-lease x.entries.workers x.entries.events x.seats x.spots n s spot d hall.seated hall.spots at.seat at.is back)
 
-pub back-not : (x : Inside) (spot : Spot) (s : Seat) (d : Finished) → IsHall x → SpotSeat x d.worker spot s → (IsBack s.job spot.index d → ⊥) → (l : LeaseOut) → IsOfLease x.entries.events d l → ⊥
-back-not x spot s d hall at other l of = other (lease-back x.entries.workers x.entries.events x.seats x.spots spot.job s spot d l hall.seated.some_worker hall.bound hall.seated hall.spots (seat-of x d.worker spot s hall at) at.is of)
+pub back-not : (x : Inside) (spot : Spot) (n : ℕ) (s : Seat) (d : Finished) → IsHall x → SpotSeat x d.worker spot n s → (IsBack s.job spot.index d → ⊥) → (l : LeaseOut) → IsOfLease x.entries.events d l → ⊥
+back-not x spot n s d hall at other l of = other (lease-back x.entries.workers x.entries.events x.seats x.spots n s spot d l hall.seated.some_worker hall.bound hall.seated hall.spots at.seat at.is of)
 
-pub kept-is : (x : Inside) (spot : Spot) (s : Seat) (worker : ℕ) → IsHall x → SpotSeat x worker spot s → Some spot.start ≡ option_map (λ (l : LeaseOut). start_number l.worker x.entries.events) (lease_of worker (leases x.entries.events))
-kept-is x spot s worker hall at = ap (λ (n : ℕ). let o : Option ℕ = Some n in o) at.is.number ∙ sym (ap (option_map (λ (l : LeaseOut). start_number l.worker x.entries.events)) at.is.out)
+pub kept-is : (x : Inside) (spot : Spot) (n : ℕ) (s : Seat) (worker : ℕ) → IsHall x → SpotSeat x worker spot n s → Some spot.start ≡ option_map (λ (l : LeaseOut). start_number l.worker x.entries.events) (lease_of worker (leases x.entries.events))
+kept-is x spot n s worker hall at = ap (λ (m : ℕ). let o : Option ℕ = Some m in o) at.is.number ∙ sym (ap (option_map (λ (l : LeaseOut). start_number l.worker x.entries.events)) at.is.out)
 
 -- a worker without a spot has no lease
 pub none-out : (x : Inside) (sp : List (Option Spot)) (worker : ℕ) (o : Option Spot) → IsHall x → sp ≡ x.spots → 1 ≤ worker → o ≡ get_or sp (worker - 1) None → o ≡ None → lease_of worker (leases x.entries.events) ≡ None
@@ -316,36 +329,36 @@ strange-none past d none l of = let both : None ≡ Some l = sym none ∙ of.out
 pub zero-out : (x : Inside) → IsHall x → lease_of 0 (leases x.entries.events) ≡ None
 zero-out x hall = zero-lease x.entries.workers x.entries.events hall.seated.some_worker hall.bound hall.seated.legal
 
-may-finish : (x : Inside) (worker : ℕ) (spot : Spot) (s : Seat) (back : Option Finished) → IsHall x → SpotSeat x worker spot s → MayEnd x.entries.events worker back → MayFinish s.job spot.index back
-may-finish x worker spot s None hall at may = spot-out x.entries.workers x.entries.events x.seats x.spots spot.job s worker spot hall.seated.some_worker hall.bound hall.seated hall.spots (seat-of x worker spot s hall at) at.is
-may-finish x worker spot s (Some d) hall at may =
+may-finish : (x : Inside) (worker : ℕ) (spot : Spot) (n : ℕ) (s : Seat) (back : Option Finished) → IsHall x → SpotSeat x worker spot n s → MayEnd x.entries.events worker back → MayFinish s.job spot.index back
+may-finish x worker spot n s None hall at may = spot-out x.entries.workers x.entries.events x.seats x.spots n s worker spot hall.seated.some_worker hall.bound hall.seated hall.spots at.seat at.is
+may-finish x worker spot n s (Some d) hall at may =
     let same : d.worker ≡ worker = may.belongs.0 ∙ may.worker_is in
-    lease-back x.entries.workers x.entries.events x.seats x.spots spot.job s spot d may.lease hall.seated.some_worker hall.bound hall.seated hall.spots (seat-of x worker spot s hall at) (subst (λ (v : ℕ). IsAt x.entries.events (tags_of x.seats) v spot) (sym same) at.is) may.belongs.1
+    lease-back x.entries.workers x.entries.events x.seats x.spots n s spot d may.lease hall.seated.some_worker hall.bound hall.seated hall.spots at.seat (subst (λ (v : ℕ). IsAt x.entries.events (tags_of x.seats) v spot) (sym same) at.is) may.belongs.1
 
 -- there is room for a finish
-end-room : (x : Inside) (worker : ℕ) (spot : Spot) (s : Seat) → IsHall x → SpotSeat x worker spot s → 1 ≤ x.entries.room
-end-room x worker spot s hall at = omega (arith, hall.room, out-left x.spots (worker - 1) spot at.taken)
+end-room : (x : Inside) (worker : ℕ) (spot : Spot) (n : ℕ) (s : Seat) → IsHall x → SpotSeat x worker spot n s → 1 ≤ x.entries.room
+end-room x worker spot n s hall at = omega (arith, hall.room, out-left x.spots (worker - 1) spot at.taken)
 
 -- the lease of a worker at a spot may end so
-pub record EndsAt (x : Inside) (worker : ℕ) (spot : Spot) (back : Option Finished) : Type 0 where
+pub record EndsAt (x : Inside) (worker : ℕ) (spot : Spot) (at : ℕ) (back : Option Finished) : Type 0 where
   pub seat : Seat
-  pub sits : SpotSeat x worker spot seat
-  pub place : spot.job < length x.seats
-  pub may : OfSeat x.seats spot.job (λ s. MayFinish s.job spot.index back)
+  pub sits : SpotSeat x worker spot at seat
+  pub place : at < length x.seats
+  pub may : OfSeat x.seats at (λ s. MayFinish s.job spot.index back)
   pub room : 1 ≤ x.entries.room
 
-pub ends-at : (x : Inside) (sp : List (Option Spot)) (worker : ℕ) (o : Option Spot) (spot : Spot) (back : Option Finished) → IsHall x → sp ≡ x.spots → 1 ≤ worker → o ≡ get_or sp (worker - 1) None → o ≡ Some spot → MayEnd x.entries.events worker back → EndsAt x worker spot back
-ends-at x sp worker o spot back hall same low scan found may =
-    let within = spot-within x worker spot hall (spot-is x sp worker o spot hall same low scan found) in
-    let there = seat-there x.seats spot.job within in
+pub ends-at : (x : Inside) (sp : List (Option Spot)) (worker : ℕ) (o : Option Spot) (spot : Spot) (p : Option ℕ) (at : ℕ) (back : Option Finished) → IsHall x → sp ≡ x.spots → 1 ≤ worker → o ≡ get_or sp (worker - 1) None → o ≡ Some spot → p ≡ place_numbered spot.job x.seats → p ≡ Some at → MayEnd x.entries.events worker back → EndsAt x worker spot at back
+ends-at x sp worker o spot p at back hall same low scan found placed is may =
+    let within = spot-within x spot p at placed is in
+    let there = seat-there x.seats at within in
     let s : Seat = there.0 in
-    let sits = spot-seat x sp worker o spot s hall same low scan found (sym (get_or_from_slice_get x.seats spot.job s s there.1)) in
+    let sits = spot-seat x sp worker o spot p at s hall same low scan found placed is (sym (get_or_from_slice_get x.seats at s s there.1)) in
     record {
       seat = s;
       sits = sits;
       place = within;
-      may = of-seat (λ (t : Seat). MayFinish t.job spot.index back) x.seats spot.job s sits.seat (may-finish x worker spot s back hall sits may);
-      room = end-room x worker spot s hall sits;
+      may = of-seat (λ (t : Seat). MayFinish t.job spot.index back) x.seats at s sits.seat.is (may-finish x worker spot at s back hall sits may);
+      room = end-room x worker spot at s hall sits;
     }
 
 -- a lease ends
@@ -353,12 +366,12 @@ pub record Ended (x y : Inside) (worker : ℕ) (outcome : Outcome) : Type 0 wher
   pub hall : IsHall y
   pub has : HasEnded x.entries.events y.entries.events worker outcome
 
-pub phase-end : (x y : Inside) (worker : ℕ) (spot : Spot) (s : Seat) (outcome : Outcome) → IsHall x → SpotSeat x worker spot s → y.entries.workers ≡ x.entries.workers → y.entries.events ≡ x.entries.events ++ Finish s.job.titled.key spot.index worker outcome ∷ [] → y.seats ≡ slice_set x.seats spot.job (record s { job = and_own s.job (Done spot.index outcome) }) → y.spots ≡ slice_set x.spots (worker - 1) None → y.starts ≡ x.starts → y.unclosed ≡ x.unclosed → y.tenants ≡ x.tenants → y.entries.room + 1 ≡ x.entries.room → Ended x y worker outcome
-phase-end x y worker spot s outcome hall at workers events seats spots starts unclosed tenants room =
+pub phase-end : (x y : Inside) (worker : ℕ) (spot : Spot) (n : ℕ) (s : Seat) (outcome : Outcome) → IsHall x → SpotSeat x worker spot n s → y.entries.workers ≡ x.entries.workers → y.entries.events ≡ x.entries.events ++ Finish s.job.titled.key spot.index worker outcome ∷ [] → y.seats ≡ slice_set x.seats n (record s { job = and_own s.job (Done spot.index outcome) }) → y.spots ≡ slice_set x.spots (worker - 1) None → y.starts ≡ x.starts → y.unclosed ≡ x.unclosed → IsAsNoted x y → y.entries.room + 1 ≡ x.entries.room → Ended x y worker outcome
+phase-end x y worker spot n s outcome hall at workers events seats spots starts unclosed noted room =
     let w : ℕ = worker - 1 in
     let some : worker ≡ suc w = omega (arith, at.worker_is.low) in
-    let held : lease_of worker (leases x.entries.events) ≡ Some (held_at s worker spot.index) = spot-held x.entries.workers x.entries.events x.seats x.spots spot.job s worker spot hall.seated hall.spots (seat-of x worker spot s hall at) at.is in
-    let grown = hall-finish x y spot.job s spot.index w outcome spot hall at.seat (subst (λ (v : ℕ). Allowed x.entries.workers x.entries.events (Finish s.job.titled.key spot.index v outcome)) some held) at.taken workers (subst (λ (v : ℕ). y.entries.events ≡ x.entries.events ++ Finish s.job.titled.key spot.index v outcome ∷ []) some events) seats spots starts unclosed tenants room in
+    let held : lease_of worker (leases x.entries.events) ≡ Some (held_at s worker spot.index) = spot-held x.entries.workers x.entries.events x.seats x.spots n s worker spot hall.seated hall.spots at.seat at.is in
+    let grown = hall-finish x y n s spot.index w outcome spot hall at.seat.is (subst (λ (v : ℕ). Allowed x.entries.workers x.entries.events (Finish s.job.titled.key spot.index v outcome)) some held) at.taken workers (subst (λ (v : ℕ). y.entries.events ≡ x.entries.events ++ Finish s.job.titled.key spot.index v outcome ∷ []) some events) seats spots starts unclosed noted room in
     record { hall = grown.hall; has = record { lease = held_at s worker spot.index; out = held; grown = subst (λ (v : ℕ). y.entries.events ≡ x.entries.events ++ Finish s.job.titled.key spot.index v outcome ∷ []) (sym some) grown.events } }
 
 -- the worker of a lease that is found
@@ -381,9 +394,9 @@ may-lose past worker some = by_lease (lease_of worker (leases past)) refl some
         record { lease = l; worker_is = same; belongs = ap (λ (v : ℕ). lease_of v (leases past)) same ∙ e }
 
 -- one that came back may end
-pub may-return : (x : Inside) (spot : Spot) (s : Seat) (d : Finished) → IsHall x → SpotSeat x d.worker spot s → IsBack s.job spot.index d → MayEnd x.entries.events d.worker (Some d)
-may-return x spot s d hall at back =
-    let of = back-is x spot s d hall at back in
+pub may-return : (x : Inside) (spot : Spot) (n : ℕ) (s : Seat) (d : Finished) → IsHall x → SpotSeat x d.worker spot n s → IsBack s.job spot.index d → MayEnd x.entries.events d.worker (Some d)
+may-return x spot n s d hall at back =
+    let of = back-is x spot n s d hall at back in
     let same : of.0.worker ≡ d.worker = found-worker d.worker (leases x.entries.events) of.0 of.1.out in
     record { lease = of.0; worker_is = same; belongs = (sym same, of.1) }
 

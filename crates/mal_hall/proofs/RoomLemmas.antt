@@ -1,8 +1,8 @@
-use Rattle.std.proofs.Common.{◌≤◌, not, length, arith}
-use Rattle.std.proofs.lemmas.List.Sums.{count_by-le-length}
-use Rattle.spec_hall.specs.Seats.{Seat}
-use Rattle.mal_hall.specs.HallView.{Inside, IsHall}
+use Rattle.std.proofs.Common.{◌≡◌, ◌≤◌, List, sym, subst}
+use Rattle.spec_hall.specs.Spots.{Spot}
+use Rattle.std.specs.Prelude.{Option}
+use Rattle.mal_hall.specs.HallView.{Inside, IsHall, owed_in}
 
--- the jobs that are not closed are jobs
-pub unclosed-few : (x : Inside) → IsHall x → x.unclosed ≤ length x.seats
-unclosed-few x hall = omega (arith, hall.unclosed_is, count_by-le-length (λ (s : Seat). not s.job.titled.state.closed) x.seats)
+-- there is room for what is owed
+pub room-kept : (x : Inside) (sp : List (Option Spot)) → IsHall x → sp ≡ x.spots → owed_in x.unclosed x.seats sp ≤ x.entries.room
+room-kept x sp hall same = subst (λ (os : List (Option Spot)). owed_in x.unclosed x.seats os ≤ x.entries.room) (sym same) hall.room

@@ -1,4 +1,5 @@
 pub mod Entered
+pub mod Named
 pub mod HallView
 pub mod Offered
 pub mod Replying
@@ -6,3 +7,4 @@ pub mod Turned
 pub mod Applied
 pub mod Desks
 pub mod Driven
+pub mod Moving

@@ -1,23 +1,26 @@
-//! What a hall entered: its events, each with what was posted by it.
+//! What a hall entered: its events, each with what stands at it.
 
-ghost use Rattle.std.specs.Prelude.{◌≡◌, ◌+◌, ◌≤◌, [], ◌∷◌, ◌++◌, map, option_map, None, IfOk, OnOk};
-ghost use Rattle.mal_hall.specs.Entered.{full};
-ghost use Rattle.spec_hall.specs.{Dressed.{keyed}, Events.{Revise, bare}};
+ghost use Rattle.std.specs.Prelude.{◌≡◌, ◌+◌, ◌<◌, ◌≤◌, ◌^◌, [], ◌∷◌, ◌++◌, map, option_map, None, IfOk, OnOk};
+ghost use Rattle.mal_hall.specs.Entered.{brought_of, full, posted_of};
+ghost use Rattle.spec_hall.specs.{Dressed.{keyed}, Events.{Arrive, Revise, bare}, Own.{own}};
 
+use crate::content::Content;
+use crate::telling::{JobKey, own_among};
 use mal_base::Name;
 use mal_history::{Event, History};
+use mal_parcel::Owned;
 use mal_revision::Revision;
 use std::alloc::{AllocError, Global};
 use std::marker::Model;
 
-/// The events that a hall of so many workers (1 to 64) entered, in their order, each with what was posted by it.
+/// The events that a hall of so many workers (1 to 64) entered, in their order, each with what stands at it.
 /// Contracts see the number of workers, the events, and the room: for how many more events there is memory.
 #[derive(Drop)]
 pub struct EventList {
     history: History,
-    /// What stands at each event, at the event's place: the revision that was posted where it is a Revise. It is in a
-    /// box, so that an event at which nothing stands takes little.
-    contents: Vec<Option<Box<Revision>>>,
+    /// What stands at each event, at the event's place: the revision that was posted where it is a Revise, what the job
+    /// did before where it is an Arrive. It is in a box, so that an event at which nothing stands takes little.
+    contents: Vec<Option<Box<Content>>>,
 }
 
 impl Model for EventList {
@@ -54,11 +57,12 @@ impl EventList {
         ensures value { result ≡ self.now.workers }
         ensures some { 1 ≤ result }
         ensures bound { result ≤ 64 }
+        ensures few { self.now.room < 2 ^ 63 }
     {
         self.history.workers()
     }
 
-    /// The events as they are written down, without what was posted.
+    /// The events as they are written down, without what stands at them.
     #[tactic(auto, using(crate::proofs::EntryLemmas::written_down))]
     pub fn history(&self) -> &History
         ensures workers { result.now.workers ≡ self.now.workers }
@@ -79,11 +83,31 @@ impl EventList {
     }
 
     /// A copy of a revision, which is to stand at its Revise. It shares the lists.
-    pub fn copy_of(&self, revision: &Revision) -> Result<Box<Revision>, AllocError>
-        ensures { IfOk result (λ r. r.value ≡ revision.now) }
+    pub fn copy_of(&self, revision: &Revision) -> Result<Box<Content>, AllocError>
+        ensures { IfOk result (λ c. posted_of c.value ≡ revision.now) }
     {
         let alloc = *self.contents.allocator();
-        Ok(Box::new(alloc, revision.copy()?)?)
+        Ok(Box::new(alloc, Content::Revised(revision.copy()?))?)
+    }
+
+    /// A copy of what a job did before, which is to stand at its Arrive. The revisions share their lists.
+    pub fn arrival_of(&self, own: &Owned) -> Result<Box<Content>, AllocError>
+        ensures { IfOk result (λ c. brought_of c.value ≡ own.now) }
+    {
+        let alloc = *self.contents.allocator();
+        Ok(Box::new(alloc, Content::Arrived(own.copy()?))?)
+    }
+
+    /// The own events of a job: of each that was entered what it tells of the job.
+    pub fn own_of(&self, tenant: &Name, job: &Name) -> Result<Owned, AllocError>
+        ensures { IfOk result (λ o. o ≡ own (keyed tenant.now job.now) self.now.events) }
+    {
+        let alloc = *self.contents.allocator();
+        let key = JobKey {
+            tenant: *tenant,
+            job: *job,
+        };
+        own_among(alloc, &key, self.history.events(), &self.contents)
     }
 
     /// Enters an event at which nothing stands, for which room was made. Takes no memory.
@@ -97,10 +121,10 @@ impl EventList {
     }
 
     /// Enters a Revise with the revision that was posted, for which room was made. Takes no memory.
-    pub fn push_revise(&mut self, tenant: Name, job: Name, number: u32, revision: Box<Revision>)
+    pub fn push_revise(&mut self, tenant: Name, job: Name, number: u32, content: Box<Content>)
         requires { 1 ≤ self.old.room }
         ensures workers { self.new.workers ≡ self.old.workers }
-        ensures events { self.new.events ≡ self.old.events ++ Revise (keyed tenant job) number revision.value ∷ [] }
+        ensures events { self.new.events ≡ self.old.events ++ Revise (keyed tenant job) number (posted_of content.value) ∷ [] }
         ensures room { self.new.room + 1 ≡ self.old.room }
     {
         let event = Event::Revise {
@@ -108,15 +132,25 @@ impl EventList {
             job,
             number,
         };
-        self.push_with(event, Some(revision));
+        self.push_with(event, Some(content));
+    }
+
+    /// Enters an Arrive with what the job did before, for which room was made. Takes no memory.
+    pub fn push_arrive(&mut self, tenant: Name, job: Name, content: Box<Content>)
+        requires { 1 ≤ self.old.room }
+        ensures workers { self.new.workers ≡ self.old.workers }
+        ensures events { self.new.events ≡ self.old.events ++ Arrive (keyed tenant job) (brought_of content.value) ∷ [] }
+        ensures room { self.new.room + 1 ≡ self.old.room }
+    {
+        self.push_with(Event::Arrive { tenant, job }, Some(content));
     }
 
     /// Enters an event with what stands at it.
     #[tactic(auto, using(crate::proofs::EntryLemmas::one_more))]
-    fn push_with(&mut self, event: Event, content: Option<Box<Revision>>)
+    fn push_with(&mut self, event: Event, content: Option<Box<Content>>)
         requires { 1 ≤ self.old.room }
         ensures workers { self.new.workers ≡ self.old.workers }
-        ensures events { self.new.events ≡ self.old.events ++ full event (option_map (λ r. r.value) content) ∷ [] }
+        ensures events { self.new.events ≡ self.old.events ++ full event (option_map (λ c. c.value) content) ∷ [] }
         ensures room { self.new.room + 1 ≡ self.old.room }
     {
         self.history.push_reserved(event);

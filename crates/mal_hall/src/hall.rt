@@ -10,11 +10,14 @@ ghost use Rattle.spec_job.specs.{Models.{AnswersSolve}, Proofs.{AnswersRefute}, 
 ghost use Rattle.spec_hall.specs.States as states_of;
 
 use crate::enter::{
-    enter_balance, enter_exchange, enter_finish, enter_open, enter_reask, enter_revise, enter_start,
+    Entrant, enter_balance, enter_exchange, enter_finish, enter_open, enter_reask, enter_revise,
+    enter_start,
 };
 use crate::event_list::EventList;
 use crate::lodging::lists;
+use crate::names::Names;
 use crate::offer::{Back, Pick, Strange};
+use crate::places::place_of;
 use crate::room::{next_number, tenants_after};
 use crate::spots::{Spot, count_out, no_leases, owed, spot_of};
 use mal_base::{
@@ -38,13 +41,19 @@ use std::mem;
 pub struct Hall {
     /// What was entered: the events are told by it alone, and by no job. A revision there shares its lists with the one
     /// that its job has.
-    entries: EventList,
-    seats: Seats,
-    spots: Vec<Option<Spot>>,
-    starts: u64,
-    unclosed: usize,
-    tenants: usize,
-    lodged: Vec<Option<Lease>>,
+    pub(crate) entries: EventList,
+    pub(crate) seats: Seats,
+    pub(crate) spots: Vec<Option<Spot>>,
+    /// Each name that a job ever had here, with the number of its last coming. None is forgotten.
+    pub(crate) names: Names,
+    pub(crate) starts: u64,
+    pub(crate) unclosed: usize,
+    pub(crate) tenants: usize,
+    /// How many openings and arrivals there were: the number of the next job that comes.
+    pub(crate) comings: u64,
+    /// Whether a job left or arrived since the last balancing.
+    pub(crate) moved: bool,
+    pub(crate) lodged: Vec<Option<Lease>>,
 }
 
 impl Model for Hall {
@@ -61,7 +70,7 @@ impl Model for Hall {
     } };
 
     ghost invariant = { λ h. IsHall
-        (record { entries = h.entries; seats = h.seats; spots = h.spots.items; starts = h.starts; unclosed = h.unclosed; tenants = h.tenants }) };
+        (record { entries = h.entries; seats = h.seats; spots = h.spots.items; names = h.names; starts = h.starts; unclosed = h.unclosed; tenants = h.tenants; comings = h.comings; moved = h.moved }) };
 }
 
 impl Hall {
@@ -77,9 +86,12 @@ impl Hall {
             entries: EventList::new(alloc, workers),
             seats: Seats::new(alloc),
             spots: no_leases(alloc, workers)?,
+            names: Names::new(alloc),
             starts: 0,
             unclosed: 0,
             tenants: 0,
+            comings: 0,
+            moved: false,
             lodged: no_leases(alloc, workers)?,
         })
     }
@@ -93,26 +105,35 @@ impl Hall {
         ensures call { HasCalled self.old.workers self.old.events
             (Opens (keyed tenant job) ask) result self.new.events }
     {
-        if self.seats.place_of(tenant, job).is_some() {
+        if self.names.number_of(tenant, job).is_some() {
             return Err(OpenFault::Duplicate);
         }
-        let jobs = self.seats.jobs_of(tenant);
+        let jobs = self.names.jobs_of(tenant);
         let tenants = tenants_after(self.tenants, jobs)?;
         are_in_form(&tenant, &job, ask);
-        let owed = owed(&self.seats, self.unclosed, &self.spots);
+        if self.comings == u64::MAX {
+            return Err(OpenFault::OutOfMemory);
+        }
+        let entrant = Entrant {
+            number: self.comings,
+            tenant,
+            job,
+        };
+        let owed = owed(&self.entries, &self.seats, self.unclosed, &self.spots);
         match enter_open(
             &mut self.entries,
             &mut self.seats,
-            tenant,
-            job,
+            &mut self.names,
+            entrant,
             ask,
-            owed + 1,
+            owed + 2,
         ) {
             Ok(()) => {}
             Err(_) => return Err(OpenFault::OutOfMemory),
         }
         self.unclosed += 1;
         self.tenants = tenants;
+        self.comings += 1;
         Ok(())
     }
 
@@ -135,11 +156,11 @@ impl Hall {
         ensures call { HasCalled self.old.workers self.old.events
             (Revises (keyed tenant.now job.now) revision) result self.new.events }
     {
-        let Some(at) = self.seats.place_of(*tenant, *job) else {
+        let Some(at) = place_of(&self.names, &self.seats, *tenant, *job) else {
             return Err(ReviseFault::NoJob);
         };
         let number = next_number(self.seats.at(at).job(), &revision)?;
-        let owed = owed(&self.seats, self.unclosed, &self.spots);
+        let owed = owed(&self.entries, &self.seats, self.unclosed, &self.spots);
         match enter_revise(
             &mut self.entries,
             &mut self.seats,
@@ -166,13 +187,13 @@ impl Hall {
     {
         // For the proof.
         let _ = weight.priority();
-        let Some(at) = self.seats.place_of(*tenant, *job) else {
+        let Some(at) = place_of(&self.names, &self.seats, *tenant, *job) else {
             return Err(ReaskFault::NoJob);
         };
         if self.seats.at(at).job().is_closed() {
             return Err(ReaskFault::Closed);
         }
-        let owed = owed(&self.seats, self.unclosed, &self.spots);
+        let owed = owed(&self.entries, &self.seats, self.unclosed, &self.spots);
         match enter_reask(&mut self.entries, &mut self.seats, at, weight, owed) {
             Ok(()) => {}
             Err(_) => return Err(ReaskFault::OutOfMemory),
@@ -189,7 +210,7 @@ impl Hall {
         ensures call { HasCalled self.old.workers self.old.events
             (Closes (keyed tenant.now job.now)) result self.new.events }
     {
-        let Some(at) = self.seats.place_of(*tenant, *job) else {
+        let Some(at) = place_of(&self.names, &self.seats, *tenant, *job) else {
             return Err(CloseFault::NoJob);
         };
         if self.seats.at(at).job().is_closed() {
@@ -280,13 +301,13 @@ impl Hall {
     }
 
     /// The job of this key: None exactly where it is not there. Its answers are right, and its clauses its own.
-    fn job_named(&self, tenant: &Name, job: &Name) -> Option<&Job>
+    pub(crate) fn job_named(&self, tenant: &Name, job: &Name) -> Option<&Job>
         ensures found { MatchOption result (job_of (keyed tenant.now job.now) (states self.now.events) ≡ None)
             (λ j. job_of (keyed tenant.now job.now) (states self.now.events) ≡ Some j.now.titled) }
         ensures key { IfSome result (λ j. j.now.titled.key ≡ keyed tenant.now job.now) }
         ensures right { AnswersRightly (keyed tenant.now job.now) self.now.events }
     {
-        let Some(at) = self.seats.place_of(*tenant, *job) else {
+        let Some(at) = place_of(&self.names, &self.seats, *tenant, *job) else {
             return None;
         };
         Some(self.seats.at(at).job())
@@ -300,7 +321,7 @@ impl Hall {
         ensures some { 1 ≤ self.now.workers }
         ensures bound { self.now.workers ≤ 64 }
     {
-        self.seats.is_due()
+        self.moved || self.seats.is_due()
     }
 
     /// The place of the first job of which an exchange is due.
@@ -335,8 +356,9 @@ impl Hall {
         ensures ok { OnOk result (HasBalanced self.old.workers self.old.events self.new.events) }
         ensures err { OnErr result (self.new.events ≡ self.old.events) }
     {
-        let owed = owed(&self.seats, self.unclosed, &self.spots);
+        let owed = owed(&self.entries, &self.seats, self.unclosed, &self.spots);
         enter_balance(&mut self.entries, &mut self.seats, owed)?;
+        self.moved = false;
         Ok(())
     }
 
@@ -350,7 +372,7 @@ impl Hall {
         ensures ok { OnOk result (HasExchanged self.old.workers self.old.events self.new.events) }
         ensures err { OnErr result (self.new.events ≡ self.old.events) }
     {
-        let owed = owed(&self.seats, self.unclosed, &self.spots);
+        let owed = owed(&self.entries, &self.seats, self.unclosed, &self.spots);
         match enter_exchange(&mut self.entries, &mut self.seats, at, owed) {
             Ok(()) => {}
             Err(_) => return Err(AllocError),
@@ -429,9 +451,16 @@ impl Hall {
             return Err(AllocError);
         }
         let start = self.starts + 1;
-        let spot = Spot::new(at, index, start);
-        let owed = owed(&self.seats, self.unclosed, &self.spots);
-        let lease = match enter_start(&mut self.entries, &mut self.seats, spot, worker, owed + 1) {
+        let spot = Spot::new(self.seats.at(at).job().number(), index, start);
+        let owed = owed(&self.entries, &self.seats, self.unclosed, &self.spots);
+        let lease = match enter_start(
+            &mut self.entries,
+            &mut self.seats,
+            at,
+            spot,
+            worker,
+            owed + 1,
+        ) {
             Ok(lease) => lease,
             Err(_) => return Err(AllocError),
         };
@@ -496,7 +525,10 @@ impl Hall {
         let Some(spot) = spot_of(&self.spots, worker) else {
             return Err(None);
         };
-        if !self.seats.at(spot.job()).is_back(spot.index(), back) {
+        let Some(at) = self.seats.place_of_number(spot.job()) else {
+            unreachable!();
+        };
+        if !self.seats.at(at).is_back(spot.index(), back) {
             return Err(Some(spot.start()));
         }
         Ok(())
@@ -513,7 +545,17 @@ impl Hall {
         let Some(spot) = spot_of(&self.spots, worker) else {
             unreachable!();
         };
-        enter_finish(&mut self.entries, &mut self.seats, spot, worker, back);
+        let Some(at) = self.seats.place_of_number(spot.job()) else {
+            unreachable!();
+        };
+        enter_finish(
+            &mut self.entries,
+            &mut self.seats,
+            at,
+            spot.index(),
+            worker,
+            back,
+        );
         self.spots[worker as usize - 1] = None;
     }
 
@@ -563,8 +605,9 @@ impl Hall {
         Ok(())
     }
 
-    /// Picks as worker 1, works the lease off and takes it back. False where nothing was left to do.
-    fn turn(&mut self, scratch: &mut Scratch) -> Result<bool, AllocError>
+    /// Picks as worker 1, works the lease off and takes it back: a slice. False where worker 1 got no lease, and nothing
+    /// is left to do.
+    pub fn turn(&mut self, scratch: &mut Scratch) -> Result<bool, AllocError>
         requires home { leases self.old.events ≡ [] }
         ensures workers { self.new.workers ≡ self.old.workers }
         ensures turned { IsTurn self.old.workers self.old.events result self.new.events }
@@ -644,7 +687,10 @@ impl Hall {
         if spot.index() != index {
             return false;
         }
-        self.is_named(spot.job(), tenant, job)
+        let Some(at) = self.seats.place_of_number(spot.job()) else {
+            unreachable!();
+        };
+        self.is_named(at, tenant, job)
     }
 
     /// Whether the last event is a balancing that lists these volumes.

@@ -1,13 +1,13 @@
 //! Whether a hall takes a further job, and a job a further revision.
 
-ghost use Rattle.std.specs.Prelude.{◌≡◌, ◌+◌, ◌<◌, true, false, ◌==◌, if◌then◌else◌, List, [], length, Some, None, Err, MatchOption, IfOk, IfErr};
+ghost use Rattle.std.specs.Prelude.{◌≡◌, ◌+◌, ◌<◌, true, false, ◌==◌, if◌then◌else◌, List, [], length, Some, None, Err, MatchOption, IfOk, IfErr, OnOk};
 ghost use Rattle.std.specs.List.{list_any};
 ghost use Rattle.mal_revision.specs.Posted.{is_posted};
-ghost use Rattle.spec_hall.specs.{Calls.{IsOpening, IsRevising}, Events.{Event}, Own.{is_key}, Room.{HasRoomFor, IsOver}, States.{names_of, states}, Legal.{job_of, jobs_of, tenant_count}};
+ghost use Rattle.spec_hall.specs.{Calls.{IsAdmission, IsOpening, IsRevising}, Events.{Event}, Own.{is_key}, Room.{HasRoomFor, IsOver}, States.{names_of, states}, Legal.{job_of, jobs_of, tenant_count}};
 ghost use Rattle.mal_base.specs.Asks.{Terms};
 ghost use Rattle.spec_job.specs.KeyedJob.{Key};
 
-use mal_base::{LimitKind, OpenFault, ReviseFault};
+use mal_base::{AdmitFault, LimitKind, OpenFault, ReviseFault};
 use mal_job::Job;
 use mal_revision::Revision;
 
@@ -32,6 +32,28 @@ pub fn tenants_after(tenants: usize, jobs: usize) -> Result<usize, OpenFault>
         return Err(OpenFault::HallFull);
     }
     Ok(tenants + 1)
+}
+
+/// Whether a job comes whose name is new, of a tenant with so many names, to a hall with so many tenants: the tenant has
+/// fewer than 64, and where it has none there are fewer than 64 other tenants.
+pub fn may_come(tenants: usize, jobs: usize) -> Result<(), AdmitFault>
+    ensures few { OnOk result (jobs < 64) }
+    ensures others { OnOk result (jobs ≡ 0 → tenants < 64) }
+    ensures refusal { IfErr result
+        (λ fault. (k : Key) (past : List Event) → job_of k (states past) ≡ None
+        → list_any (is_key k) (names_of past) ≡ false → jobs ≡ jobs_of k.tenant (names_of past)
+        → tenants ≡ tenant_count (names_of past) → IsAdmission past k (Err fault)) }
+{
+    if jobs >= 64 {
+        return Err(AdmitFault::TenantFull);
+    }
+    if jobs > 0 {
+        return Ok(());
+    }
+    if tenants >= 64 {
+        return Err(AdmitFault::HallFull);
+    }
+    Ok(())
 }
 
 /// The number of a job's next revision, or why the job does not take it: it is closed, it has 256 revisions, or it has

@@ -3,14 +3,15 @@
 ghost use Rattle.std.specs.Prelude.{◌≡◌, ◌+◌, ◌-◌, ◌<◌, ◌≤◌, ◌^◌, get_or, length, replicate, IfOk, None};
 ghost use Rattle.mal_hall.specs.HallView.{out_in};
 
+use crate::event_list::EventList;
 use mal_seats::Seats;
 use std::alloc::{AllocError, Global};
 use std::marker::Model;
 
-/// Where a worker's lease is: the place of its job by opening, the index of its node, and the number of its start.
+/// Where a worker's lease is: the number of its job, the index of its node, and the number of its start.
 #[derive(Clone, Copy)]
 pub struct Spot {
-    job: usize,
+    job: u64,
     index: u32,
     start: u64,
 }
@@ -27,14 +28,14 @@ impl Model for Spot {
 
 impl Spot {
     /// The spot of the start of this number of a node.
-    pub fn new(job: usize, index: u32, start: u64) -> Spot
+    pub fn new(job: u64, index: u32, start: u64) -> Spot
         ensures { result ≡ record { job = job; index = index; start = start } }
     {
         Spot { job, index, start }
     }
 
-    /// The place of the job.
-    pub fn job(self) -> usize
+    /// The number of the job.
+    pub fn job(self) -> u64
         ensures { result ≡ self.job }
     {
         self.job
@@ -94,13 +95,14 @@ pub fn count_out(spots: &[Option<Spot>]) -> usize
     count
 }
 
-/// For how many events room is kept: the closing of each job that is not closed, and the finish of each lease.
-pub fn owed(seats: &Seats, unclosed: usize, spots: &[Option<Spot>]) -> usize
-    requires few { unclosed ≤ length seats.now }
-    requires workers { length spots.now ≤ 64 }
-    ensures value { result ≡ unclosed + out_in spots.now }
-    ensures bound { result < 2 ^ 63 + 64 }
+/// For how many events room is kept: the closing of each job that is not closed, the finish of each lease, and the leave
+/// of each job that is there.
+pub fn owed(entries: &EventList, seats: &Seats, unclosed: usize, spots: &[Option<Spot>]) -> usize
+    requires { unclosed + out_in spots.now + length seats.now ≤ entries.now.room }
+    ensures value { result ≡ unclosed + out_in spots.now + length seats.now }
+    ensures bound { result < 2 ^ 63 }
 {
-    let _jobs = seats.len();
-    unclosed + count_out(spots)
+    // For the proof.
+    let _ = entries.workers();
+    unclosed + count_out(spots) + seats.len()
 }

@@ -3,5 +3,6 @@
 mod balance;
 mod hall;
 mod inquiry;
+mod packing;
 mod service;
 mod turn;

@@ -1,5 +1,5 @@
 use Rattle.spec_hall.specs.Dressed.{keyed}
-use Rattle.mal_hall.proofs.ApplyLemmas.{fault-is, reask-entered, reask-refused}
+use Rattle.mal_hall.proofs.ApplyLemmas.{fault-is, reask-refused}
 use Rattle.mal_hall.proofs.hall.Hall.enter_reask.Goals as goal
 
 pub returns-in-Err-clause-refused : goal.returns-in-Err-clause-refused
