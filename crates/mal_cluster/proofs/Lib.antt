@@ -1,0 +1,5 @@
+-- what this crate alone cites
+mod KeptLemmas
+mod FindingLemmas
+mod MovingLemmas
+mod TurningLemmas

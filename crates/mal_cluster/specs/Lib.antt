@@ -1,0 +1,3 @@
+pub mod Kept
+pub mod Moving
+pub mod Turning
