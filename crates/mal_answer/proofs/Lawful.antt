@@ -14,9 +14,9 @@ use Rattle.mal_answer.specs.Command.{Command, Denies, Grammar, IsLawful, IsRead,
 use Rattle.mal_answer.specs.Commands.{accounts, claims, core_inputs, descriptions, max_inputs, scripts}
 use Rattle.mal_answer.specs.Laws.{AreLawful, HaveOwnWords}
 use Rattle.mal_answer.specs.declared.answer.Complaint.{Complaint}
-use Rattle.mal_answer.proofs.Meanings.{check-words, core-words, gen-words, gen_run-words, json-words, max-words, replay-words, run-words}
+use Rattle.mal_answer.proofs.Meanings.{check-words, cluster-words, core-words, gen-words, gen_run-words, json-words, max-words, replay-words, run-words}
 use Rattle.mal_answer.specs.Forms.{Form}
-use Rattle.mal_answer.specs.declared.words.request.Request.TheVariants.{Run, Check, Replay, Generate, RunGenerated, Json, Max, Core}
+use Rattle.mal_answer.specs.declared.words.request.Request.TheVariants.{Run, Check, Replay, Generate, RunGenerated, Json, Cluster, Max, Core}
 use Rattle.mal_answer.proofs.Complaints.{fault-refused, read-faulty}
 
 -- a text with a fault spells nothing
@@ -74,6 +74,7 @@ are-lawful Replay = judging-lawful _ _ _ _ _ accounts-read (λ text log out g. (
 are-lawful (Generate seed jobs) = making-lawful _ _
 are-lawful (RunGenerated seed jobs workers) = making-lawful _ _
 are-lawful Json = reading-lawful _ _ _ descriptions-read
+are-lawful (Cluster halls workers every) = reading-lawful _ _ _ scripts-read
 are-lawful (Max slices) = reading-lawful _ _ _ max_inputs-read
 are-lawful (Core slices) = reading-lawful _ _ _ core_inputs-read
 
@@ -84,6 +85,7 @@ have-own_words Replay = replay-words
 have-own_words (Generate seed jobs) = gen-words seed jobs
 have-own_words (RunGenerated seed jobs workers) = gen_run-words seed jobs workers
 have-own_words Json = json-words
+have-own_words (Cluster halls workers every) = cluster-words halls workers every
 have-own_words (Max slices) = max-words slices
 have-own_words (Core slices) = core-words slices
 

@@ -8,12 +8,12 @@ use Rattle.clap.specs.Words.{App, HasKind, IsAmong, Kinds, Row, Text, fault_of, 
 use Rattle.clap.specs.declared.error.Error.{Error}
 use Rattle.clap.specs.declared.error.kind.ErrorKind.TheVariants as kind
 use Rattle.mal_answer.specs.CommandLine.{mal_app, refusals, subcommand}
-use Rattle.mal_answer.specs.Forms.{Form, check_form, core_form, gen_form, generate_of, json_form, max_form, number_by, number_in, replay_form, run_form, slices_in}
+use Rattle.mal_answer.specs.Forms.{Form, check_form, cluster_form, cluster_of, core_form, gen_form, generate_of, json_form, max_form, number_by, number_in, replay_form, run_form, slices_in}
 use Rattle.mal_answer.specs.Found.{IsMeaning}
 use Rattle.mal_answer.specs.WordLaws.{AskedIsAsks, OneMeaning}
 use Rattle.mal_answer.specs.Requests.{Asks, IsAskedBy, IsNumber, IsRequest, Means, MeansNothing, asked, asked_by, asked_in}
 use Rattle.mal_answer.specs.declared.words.request.Request.{Request}
-use Rattle.mal_answer.specs.declared.words.request.Request.TheVariants.{Run, Check, Replay, Generate, RunGenerated, Json, Max, Core}
+use Rattle.mal_answer.specs.declared.words.request.Request.TheVariants.{Run, Check, Replay, Generate, RunGenerated, Json, Cluster, Max, Core}
 use Rattle.mal_answer.proofs.Decimals.{is-number, is-value, number-is, value-is}
 
 pub ruleset value_lemmas = (first_value-rows)
@@ -69,6 +69,16 @@ gen-asks rows r (Some seed) (Some jobs) (Some word) s j w e =
     let m = mapped (λ n. RunGenerated seed jobs n) (number_by 1 64 word) r e in
     subst (λ (q : Request). Asks (codes "gen") rows q) m.2 (refl, subst (λ (o : Option Text). IsNumber 1 64 m.0 o) (sym w) (is-number 1 64 m.0 word m.1), is-value 0 2147483647 seed _ s, is-value 1 256 jobs _ j)
 
+cluster-asks : (rows : List Row) (r : Request) (halls workers every : Option ℕ) → number_in 2 8 (first_of (codes "halls") rows) ≡ halls → number_in 1 64 (first_of (codes "workers") rows) ≡ workers → number_in 1 1000 (first_of (codes "every") rows) ≡ every → cluster_of halls workers every ≡ Some r → Asks (codes "cluster") rows r
+cluster-asks rows r None workers every h w k e = cc
+cluster-asks rows r (Some halls) None every h w k e = cc
+cluster-asks rows r (Some halls) (Some workers) None h w k e = cc
+cluster-asks rows r (Some halls) (Some workers) (Some every) h w k e =
+    subst (λ (q : Request). Asks (codes "cluster") rows q) (inner e) (refl, is-value 2 8 halls _ h, is-value 1 64 workers _ w, is-value 1 1000 every _ k)
+  where
+    inner : ◌≡◌ {A = Option Request} (Some (Cluster halls workers every)) (Some r) → Cluster halls workers every ≡ r
+    inner h = cc
+
 some-is : (q r : Request) → ◌≡◌ {A = Option Request} (Some q) (Some r) → q ≡ r
 some-is q r e = cc
 
@@ -77,13 +87,14 @@ named name form rows r same asks = subst (λ (t : Text). Asks t rows r) (sym sam
 
 asked-asks : (name : Text) (rows : List Row) (r : Request) → asked name rows ≡ Some r → Asks name rows r
 asked-asks name rows r e =
-    by-form run_form (check_form ∷ replay_form ∷ gen_form ∷ json_form ∷ max_form ∷ core_form ∷ []) name rows r (Asks name rows r) e (λ n a. named name (codes "run") rows r n (run-asks rows r a)) (λ e.
-    by-form check_form (replay_form ∷ gen_form ∷ json_form ∷ max_form ∷ core_form ∷ []) name rows r (Asks name rows r) e (λ n a. subst (λ (q : Request). Asks name rows q) (some-is Check r a) n) (λ e.
-    by-form replay_form (gen_form ∷ json_form ∷ max_form ∷ core_form ∷ []) name rows r (Asks name rows r) e (λ n a. subst (λ (q : Request). Asks name rows q) (some-is Replay r a) n) (λ e.
-    by-form gen_form (json_form ∷ max_form ∷ core_form ∷ []) name rows r (Asks name rows r) e (λ n a. named name (codes "gen") rows r n (gen-asks rows r _ _ _ refl refl refl a)) (λ e.
-    by-form json_form (max_form ∷ core_form ∷ []) name rows r (Asks name rows r) e (λ n a. subst (λ (q : Request). Asks name rows q) (some-is Json r a) n) (λ e.
+    by-form run_form (check_form ∷ replay_form ∷ gen_form ∷ json_form ∷ cluster_form ∷ max_form ∷ core_form ∷ []) name rows r (Asks name rows r) e (λ n a. named name (codes "run") rows r n (run-asks rows r a)) (λ e.
+    by-form check_form (replay_form ∷ gen_form ∷ json_form ∷ cluster_form ∷ max_form ∷ core_form ∷ []) name rows r (Asks name rows r) e (λ n a. subst (λ (q : Request). Asks name rows q) (some-is Check r a) n) (λ e.
+    by-form replay_form (gen_form ∷ json_form ∷ cluster_form ∷ max_form ∷ core_form ∷ []) name rows r (Asks name rows r) e (λ n a. subst (λ (q : Request). Asks name rows q) (some-is Replay r a) n) (λ e.
+    by-form gen_form (json_form ∷ cluster_form ∷ max_form ∷ core_form ∷ []) name rows r (Asks name rows r) e (λ n a. named name (codes "gen") rows r n (gen-asks rows r _ _ _ refl refl refl a)) (λ e.
+    by-form json_form (cluster_form ∷ max_form ∷ core_form ∷ []) name rows r (Asks name rows r) e (λ n a. subst (λ (q : Request). Asks name rows q) (some-is Json r a) n) (λ e.
+    by-form cluster_form (max_form ∷ core_form ∷ []) name rows r (Asks name rows r) e (λ n a. named name (codes "cluster") rows r n (cluster-asks rows r _ _ _ refl refl refl a)) (λ e.
     by-form max_form (core_form ∷ []) name rows r (Asks name rows r) e (λ n a. named name (codes "max") rows r n (max-asks rows r a)) (λ e.
-    by-form core_form [] name rows r (Asks name rows r) e (λ n a. named name (codes "core") rows r n (core-asks rows r a)) (λ e. cc)))))))
+    by-form core_form [] name rows r (Asks name rows r) e (λ n a. named name (codes "core") rows r n (core-asks rows r a)) (λ e. cc))))))))
 
 -- what a subcommand asks for is its form's
 as-named : (name form : Text) (rows : List Row) (r : Request) → name ≡ form → asked form rows ≡ Some r → asked name rows ≡ Some r
@@ -115,6 +126,13 @@ gen_run-words s j w name rows a = (a.0, by-workers (first_of (codes "workers") r
 pub json-words : IsAskedBy json_form Json
 json-words name rows a = (a, refl)
 
+clusters : (rows : List Row) (r : Request) (halls workers every : Option ℕ) → number_in 2 8 (first_of (codes "halls") rows) ≡ halls → number_in 1 64 (first_of (codes "workers") rows) ≡ workers → number_in 1 1000 (first_of (codes "every") rows) ≡ every → cluster_of halls workers every ≡ Some r → cluster_form.asks rows ≡ Some r
+clusters rows r halls workers every h w k e = rw (h, w, k) e
+
+pub cluster-words : (h w k : ℕ) → IsAskedBy cluster_form (Cluster h w k)
+cluster-words h w k name rows a =
+    (a.0, clusters rows (Cluster h w k) (Some h) (Some w) (Some k) (value-is 2 8 h _ (omega arith) a.1) (value-is 1 64 w _ (omega arith) a.2) (value-is 1 1000 k _ (omega arith) a.3) refl)
+
 pub max-words : (n : ℕ) → IsAskedBy max_form (Max n)
 max-words n name rows a = (a.0, ap (λ (o : Option ℕ). option_map (λ m. Max m) o) (value-is 1 4096 n (first_of (codes "slices") rows) (omega arith) a.1))
 
@@ -128,6 +146,7 @@ asks-asked name rows Replay a = as-named name (codes "replay") rows Replay a ref
 asks-asked name rows (Generate s j) a = let own = gen-words s j name rows a in as-named name (codes "gen") rows (Generate s j) own.0 own.1
 asks-asked name rows (RunGenerated s j w) a = let own = gen_run-words s j w name rows a in as-named name (codes "gen") rows (RunGenerated s j w) own.0 own.1
 asks-asked name rows Json a = as-named name (codes "json") rows Json a refl
+asks-asked name rows (Cluster h w k) a = let own = cluster-words h w k name rows a in as-named name (codes "cluster") rows (Cluster h w k) own.0 own.1
 asks-asked name rows (Max n) a = let own = max-words n name rows a in as-named name (codes "max") rows (Max n) own.0 own.1
 asks-asked name rows (Core n) a = let own = core-words n name rows a in as-named name (codes "core") rows (Core n) own.0 own.1
 
@@ -177,6 +196,8 @@ asks-request name rows (Generate seed jobs) a =
 asks-request name rows (RunGenerated seed jobs workers) a =
     let w = in-range 1 64 workers _ a.1 in let s = in-range 0 2147483647 seed _ a.2 in let high = s.1 in let j = in-range 1 256 jobs _ a.3 in (omega arith, j.0, j.1, w.0, w.1)
 asks-request name rows Json a = tt
+asks-request name rows (Cluster halls workers every) a =
+    let h = in-range 2 8 halls _ a.1 in let w = in-range 1 64 workers _ a.2 in let k = in-range 1 1000 every _ a.3 in (h.0, h.1, w.0, w.1, k.0, k.1)
 asks-request name rows (Max slices) a = in-range 1 4096 slices _ a.1
 asks-request name rows (Core slices) a = in-range 1 4096 slices _ a.1
 

@@ -9,7 +9,7 @@ use Rattle.mal_script.specs.declared.fault.ScriptFault.TheVariants as script
 use Rattle.mal_script.specs.ReadResult.{FailsAt, Tells}
 use Rattle.mal_answer.specs.Answers.{IsAnswerTo, IsScriptRefusal, NoLine, TellsScriptFault}
 use Rattle.mal_answer.specs.Command.{Refuses, Denies}
-use Rattle.mal_answer.specs.Commands.{running}
+use Rattle.mal_answer.specs.Commands.{clustering, running}
 use Rattle.mal_answer.specs.declared.answer.Complaint.{Complaint}
 use Rattle.mal_answer.proofs.Complaints.{refused-as}
 use Rattle.mal_answer.proofs.Lawful.{are-lawful, refuses}
@@ -30,5 +30,10 @@ script-refused text e c h k = refused-as (Tells e) (Refuses (running 1) text) No
 -- so is a run of it
 pub run-refused : (workers : ℕ) (text : List ℕ) (c : Complaint) → IsScriptRefusal text c → IsAnswerTo (running workers) text (Err c)
 run-refused workers text c h = refused-as (Refuses (running 1) text) (Refuses (running workers) text) (Denies (running workers) text) (λ line r. record { outside = r.outside; told = r.told }) c h
+
+-- and a run of it in a cluster
+pub cluster-refused : (halls workers every : ℕ) (text : List ℕ) (c : Complaint) → IsScriptRefusal text c → IsAnswerTo (clustering halls workers every) text (Err c)
+cluster-refused halls workers every text c h =
+    refused-as (Refuses (running 1) text) (Refuses (clustering halls workers every) text) (Denies (clustering halls workers every) text) (λ line r. record { outside = r.outside; told = r.told }) c h
 
 pub ruleset script_lemmas = (script-refused, run-refused)

@@ -4,7 +4,7 @@ use Rattle.clap.specs.Faults.{fault_of}
 use Rattle.clap.specs.Kinds.{Kinds}
 use Rattle.clap.specs.Simple.{App, new_app, new_rule, on_top, with_rule, with_subcommand, subcommand_of}
 use Rattle.clap.specs.Walk.{Row, Rule, Text}
-use Rattle.mal_answer.specs.Forms.{Form, Opt, forms, gen_form}
+use Rattle.mal_answer.specs.Forms.{Form, Opt, cluster_form, forms, gen_form}
 
 -- an option `--name` that takes one value, at most once
 abbrev pub option_rule : Text → Bool → Rule
@@ -28,6 +28,9 @@ app_with name option = with_rule (bare_app name) (option_rule option true)
 
 abbrev pub gen_app : App
 gen_app = app_of_form gen_form
+
+abbrev pub cluster_app : App
+cluster_app = app_of_form cluster_form
 
 -- the program itself: one of its subcommands has to follow, and `help` is none
 abbrev pub bare_mal : App

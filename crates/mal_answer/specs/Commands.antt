@@ -1,9 +1,11 @@
 -- The commands of the program, each a value.
-use Rattle.std.specs.Prelude.{◌≡◌, ◌⊎◌, ℕ, List, [], ◌∷◌, codes, Ok}
+use Rattle.std.specs.Prelude.{◌≡◌, ◌⊎◌, ℕ, true, List, [], ◌∷◌, slice_get, codes, Some, Ok}
+use Rattle.std.specs.List.{list_all}
 use Rattle.mal_history.specs.Written.{line_at}
-use Rattle.mal_answer.specs.Forms.{check_form, core_form, gen_form, json_form, max_form, replay_form, run_form}
+use Rattle.mal_answer.specs.Forms.{check_form, cluster_form, core_form, gen_form, json_form, max_form, replay_form, run_form}
 use Rattle.mal_answer.specs.declared.words.request.Request.{Request}
 use Rattle.mal_answer.specs.declared.words.request.Request.TheVariants.{Run, Check, Replay, Generate, RunGenerated, Json, Max, Core}
+use Rattle.mal_answer.specs.declared.words.request.Request.TheVariants as request
 use Rattle.mal_account.specs.Accounts.{Account}
 use Rattle.mal_account.specs.Accounts as account
 use Rattle.mal_account.specs.FaultLines as account_lines
@@ -30,20 +32,25 @@ use Rattle.spec_json.specs.Grammar as json_texts
 use Rattle.spec_json.specs.Reading as json
 use Rattle.spec_json.specs.declared.fault.JsonFault.{JsonFault}
 use Rattle.spec_script.specs.Generated.{generated}
+use Rattle.spec_cluster.specs.Clusters.{Cluster}
+use Rattle.spec_cluster.specs.Run.{IsClusterRun, is_for_one, moved_replies}
+use Rattle.spec_cluster.specs.Visits.{all_of}
 use Rattle.spec_hall.specs.Driven.{IsDriven}
 use Rattle.spec_hall.specs.Events.{Event}
+use Rattle.spec_hall.specs.Own.{own}
+use Rattle.spec_job.specs.Unknown.{is_fed}
 use Rattle.spec_logic.specs.Logic.{IsUnsatisfiable}
 use Rattle.spec_logic.specs.Refutation.{IsRefutation}
 use Rattle.spec_max.specs.Optimum as spec_max
 use Rattle.spec_run.specs.Replayed.{IsLegal, IsLacking, IsRefusedAt, IsReplied}
-use Rattle.spec_run.specs.Complete.{IsComplete, script_events}
-use Rattle.spec_run.specs.Run.{IsRun}
+use Rattle.spec_run.specs.Complete.{IsComplete, key_of_job, script_events}
+use Rattle.spec_run.specs.Run.{IsRun, job_replies}
 use Rattle.mal_base.specs.declared.line_fault.LineFault.{LineFault}
 use Rattle.spec_script.specs.FaultLines.{fault_line}
 use Rattle.spec_script.specs.Grammar.{Spells}
 use Rattle.spec_script.specs.Limits.{served}
 use Rattle.spec_script.specs.Reading.{read_text}
-use Rattle.spec_script.specs.Script.{Scripted, spelling}
+use Rattle.spec_script.specs.Script.{ScriptedJob, Scripted, spelling}
 use Rattle.spec_text.specs.Lines.{line_of}
 use Rattle.mal_answer.specs.Command.{Command, Grammar, judging, making, reading}
 use Rattle.mal_answer.specs.Summaries.{summary_line}
@@ -120,6 +127,22 @@ pub record IsMinimized (slices : ℕ) (w : spec_core.Instance) (log out : List �
   pub silent : log ≡ []
   pub written : out ≡ minimal_text minimal
 
+-- each job of a script that always asks for one worker gets in a cluster the replies of every run of the script in one hall,
+-- where no start of it wanted for memory in either
+abbrev pub SinglesAreAlike : Scripted → Cluster → Type 0
+SinglesAreAlike s end =
+    (others i : ℕ) (j : ScriptedJob) (history : List Event) (log out : List ℕ) → IsRun others s history log out → slice_get s.jobs i ≡ Some j → is_for_one j ≡ true
+    → list_all is_fed (all_of (key_of_job j) end.halls end.moves) ≡ true → list_all is_fed (own (key_of_job j) history) ≡ true
+    → moved_replies end j ≡ job_replies history j
+
+-- a script was run in so many halls of so many workers, the jobs of which went on after each so many slices: these are
+-- the texts of the histories, hall by hall, and of the replies
+pub record IsClusterRunOf (halls workers every : ℕ) (s : Scripted) (log out : List ℕ) : Type 0 where
+  pub rounds : List Cluster
+  pub end : Cluster
+  pub run : IsClusterRun halls workers every s rounds end log out
+  pub singles : SinglesAreAlike s end
+
 -- `run`: a script is run with so many workers
 abbrev pub running : ℕ → Command
 running workers = reading run_form scripts (λ s log out. IsRunOf workers s log out)
@@ -148,6 +171,10 @@ running_generated seed jobs workers = making gen_form (λ log out.
 abbrev pub describing : Command
 describing = reading json_form descriptions IsWritten
 
+-- `cluster`: a script is run in so many halls, between which jobs move
+abbrev pub clustering : ℕ → ℕ → ℕ → Command
+clustering halls workers every = reading cluster_form scripts (IsClusterRunOf halls workers every)
+
 -- `max`: the optimum of a formula with soft literals is found
 abbrev pub optimizing : ℕ → Command
 optimizing slices = reading max_form max_inputs (IsOptimized slices)
@@ -164,5 +191,6 @@ command_of Replay = replaying
 command_of (Generate seed jobs) = generating seed jobs
 command_of (RunGenerated seed jobs workers) = running_generated seed jobs workers
 command_of Json = describing
+command_of (request.Cluster halls workers every) = clustering halls workers every
 command_of (Max slices) = optimizing slices
 command_of (Core slices) = minimizing slices

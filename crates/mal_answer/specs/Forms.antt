@@ -4,7 +4,7 @@ use Rattle.std.specs.Prelude.{ℕ, Bool, true, false, ◌&&◌, nat_le, List, []
 use Rattle.std.specs.Str.Parse.{digits_value}
 use Rattle.clap.specs.Walk.{Row, Text, first_of}
 use Rattle.mal_answer.specs.declared.words.request.Request.{Request}
-use Rattle.mal_answer.specs.declared.words.request.Request.TheVariants.{Run, Check, Replay, Generate, RunGenerated, Json, Max, Core}
+use Rattle.mal_answer.specs.declared.words.request.Request.TheVariants.{Run, Check, Replay, Generate, RunGenerated, Json, Cluster, Max, Core}
 
 -- an option `--name VALUE`: the letter that stands for its value, and whether it has to be given
 pub record Opt : Type 0 where
@@ -62,6 +62,22 @@ gen_form = record {
 abbrev pub json_form : Form
 json_form = record { name = codes "json"; options = []; asks = λ rows. Some Json }
 
+-- so many halls of so many workers, in which jobs move after each so many slices, where all are given
+abbrev pub cluster_of : Option ℕ → Option ℕ → Option ℕ → Option Request
+cluster_of (Some halls) (Some workers) (Some every) = Some (Cluster halls workers every)
+cluster_of halls workers every = None
+
+abbrev pub cluster_form : Form
+cluster_form = record {
+  name = codes "cluster";
+  options = record { name = codes "halls"; value = codes "H"; required = true }
+      ∷ record { name = codes "workers"; value = codes "N"; required = true }
+      ∷ record { name = codes "every"; value = codes "K"; required = true }
+      ∷ [];
+  asks = λ rows. cluster_of
+      (number_in 2 8 (first_of (codes "halls") rows)) (number_in 1 64 (first_of (codes "workers") rows)) (number_in 1 1000 (first_of (codes "every") rows));
+}
+
 -- the value of the option `slices`
 abbrev pub slices_in : List Row → Option ℕ
 slices_in rows = number_in 1 4096 (first_of (codes "slices") rows)
@@ -82,4 +98,4 @@ core_form = record {
 
 -- the commands, in the order in which the line of usage lists them
 abbrev pub forms : List Form
-forms = run_form ∷ check_form ∷ replay_form ∷ gen_form ∷ json_form ∷ max_form ∷ core_form ∷ []
+forms = run_form ∷ check_form ∷ replay_form ∷ gen_form ∷ json_form ∷ cluster_form ∷ max_form ∷ core_form ∷ []

@@ -4,15 +4,15 @@ use Rattle.clap.specs.Walk.{Row, Text, first_of}
 use Rattle.mal_answer.specs.CommandLine.{refusals, subcommand}
 use Rattle.mal_answer.specs.Forms.{Form, forms}
 use Rattle.mal_answer.specs.declared.words.request.Request.{Request}
-use Rattle.mal_answer.specs.declared.words.request.Request.TheVariants.{Run, Check, Replay, Generate, RunGenerated, Json, Max, Core}
+use Rattle.mal_answer.specs.declared.words.request.Request.TheVariants.{Run, Check, Replay, Generate, RunGenerated, Json, Cluster, Max, Core}
 
 -- the value of an option is a number in decimal digits, without a sign and without a leading zero
 abbrev pub IsNumber : ℕ → ℕ → ℕ → Option Text → Type 0
 IsNumber least most n None = ⊥
 IsNumber least most n (Some word) = (least ≤ n) × (n ≤ most) × (word ≡ decimal n)
 
--- a subcommand with these options asks for this: workers are 1 to 64, a seed is below 2^31, jobs are 1 to 256, slices 1
--- to 4,096
+-- a subcommand with these options asks for this: workers are 1 to 64, a seed is below 2^31, jobs are 1 to 256, halls
+-- 2 to 8, slices of a round 1 to 1,000, those of a question 1 to 4,096
 abbrev pub Asks : Text → List Row → Request → Type 0
 Asks name rows (Run workers) = (name ≡ codes "run") × IsNumber 1 64 workers (first_of (codes "workers") rows)
 Asks name rows Check = name ≡ codes "check"
@@ -22,6 +22,8 @@ Asks name rows (Generate seed jobs) =
 Asks name rows (RunGenerated seed jobs workers) =
     (name ≡ codes "gen") × IsNumber 1 64 workers (first_of (codes "workers") rows) × IsNumber 0 2147483647 seed (first_of (codes "seed") rows) × IsNumber 1 256 jobs (first_of (codes "jobs") rows)
 Asks name rows Json = name ≡ codes "json"
+Asks name rows (Cluster halls workers every) =
+    (name ≡ codes "cluster") × IsNumber 2 8 halls (first_of (codes "halls") rows) × IsNumber 1 64 workers (first_of (codes "workers") rows) × IsNumber 1 1000 every (first_of (codes "every") rows)
 Asks name rows (Max slices) = (name ≡ codes "max") × IsNumber 1 4096 slices (first_of (codes "slices") rows)
 Asks name rows (Core slices) = (name ≡ codes "core") × IsNumber 1 4096 slices (first_of (codes "slices") rows)
 
@@ -61,5 +63,6 @@ IsRequest Replay = Unit {0}
 IsRequest (Generate seed jobs) = (seed < 2 ^ 31) × (1 ≤ jobs) × (jobs ≤ 256)
 IsRequest (RunGenerated seed jobs workers) = (seed < 2 ^ 31) × (1 ≤ jobs) × (jobs ≤ 256) × (1 ≤ workers) × (workers ≤ 64)
 IsRequest Json = Unit {0}
+IsRequest (Cluster halls workers every) = (2 ≤ halls) × (halls ≤ 8) × (1 ≤ workers) × (workers ≤ 64) × (1 ≤ every) × (every ≤ 1000)
 IsRequest (Max slices) = (1 ≤ slices) × (slices ≤ 4096)
 IsRequest (Core slices) = (1 ≤ slices) × (slices ≤ 4096)

@@ -1,7 +1,7 @@
 -- What words ask for.
 use Rattle.std.specs.Prelude.{[], ◌∷◌, codes}
 use Rattle.mal_answer.specs.Requests.{Means, MeansNothing}
-use Rattle.mal_answer.specs.declared.words.request.Request.TheVariants.{Run, Check, Replay, Generate, RunGenerated, Json, Max, Core}
+use Rattle.mal_answer.specs.declared.words.request.Request.TheVariants.{Run, Check, Replay, Generate, RunGenerated, Json, Cluster, Max, Core}
 
 -- worked examples
 pub record HasExamples : Type 0 where
@@ -12,6 +12,7 @@ pub record HasExamples : Type 0 where
   pub gen : Means (codes "mal" ∷ codes "gen" ∷ codes "--jobs" ∷ codes "4" ∷ codes "--seed" ∷ codes "0" ∷ []) (Generate 0 4)
   pub gen_run : Means (codes "mal" ∷ codes "gen" ∷ codes "--seed=1" ∷ codes "--workers" ∷ codes "2" ∷ codes "--jobs=4" ∷ []) (RunGenerated 1 4 2)
   pub json : Means (codes "mal" ∷ codes "json" ∷ []) Json
+  pub cluster : Means (codes "mal" ∷ codes "cluster" ∷ codes "--every=1000" ∷ codes "--halls" ∷ codes "2" ∷ codes "--workers=1" ∷ []) (Cluster 2 1 1000)
   pub max : Means (codes "mal" ∷ codes "max" ∷ codes "--slices" ∷ codes "4096" ∷ []) (Max 4096)
   pub core : Means (codes "mal" ∷ codes "core" ∷ codes "--slices=1" ∷ []) (Core 1)
   pub nothing : MeansNothing (codes "mal" ∷ [])

@@ -1,5 +1,6 @@
 -- what this crate alone cites
 pub mod CallLemmas
+pub mod ClusterLemmas
 pub mod CoreLemmas
 mod Crossings
 pub mod LossLemmas

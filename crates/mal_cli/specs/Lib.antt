@@ -1,4 +1,5 @@
 pub mod Accounts
 pub mod Calls
+pub mod Clusters
 pub mod Inputs
 pub mod Laws

@@ -2,6 +2,7 @@
 //! every call of theirs is one entry of one legal record.
 #![tactic(auto)]
 
+mod clusters;
 mod cores;
 mod generating;
 mod laws;

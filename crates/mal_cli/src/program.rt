@@ -3,6 +3,7 @@
 ghost use Rattle.std.specs.Prelude.{◌≡◌, ◌⊎◌, map, string_bytes};
 ghost use Rattle.mal_answer.specs.{Answers.{IsAnswer, IsAnswerTo}, Commands.{command_of}, Devices.{AreSilent, Complained, device}, Requests.{IsRequest, Means, MeansNothing}, Served.{HasDone, ReadsNothing}, Usage.{usage_line}, declared.words.request.Request.{Request}};
 
+use crate::clusters::run_clustered;
 use crate::cores::minimize;
 use crate::generating::run_generated;
 use crate::optima::optimize;
@@ -27,6 +28,7 @@ use std::thread::Threads;
 /// | `replay` | The history that `source` gives behind its script is replayed. The replies go to `out`. |
 /// | `gen --seed S --jobs N` | The script of the seed S with N jobs goes to `out`. |
 /// | `json` | The script that the description that `source` gives spells goes to `out`. |
+/// | `cluster --halls H --workers N --every K` | The script that `source` gives is run in H halls, 2 to 8, of N workers each, 1 to 64. After each K slices of every hall, 1 to 1,000, its first live job goes on to the next. The texts of the histories go to `log`, hall by hall, the replies to `out`. |
 /// | `max --slices N` | The optimum of the formula and the soft literals that `source` gives is looked for, each question with a budget of N slices, 1 to 4,096. It goes to `out`. |
 /// | `core --slices N` | A minimal core of the formula and the assumptions that `source` gives is looked for, each question with a budget of N slices, 1 to 4,096. It goes to `out`. |
 /// | `gen --seed S --jobs N --workers W` | That script is run with W workers. The text of the history goes to `log`, a summary of the replies to `out`. |
@@ -128,6 +130,11 @@ fn answer<R: Threads + Wait + Sync, G: Gate>(
         Request::Check => check(alloc, text),
         Request::Replay => replay_text(alloc, text),
         Request::Json => describe(alloc, text),
+        Request::Cluster {
+            halls,
+            workers,
+            every,
+        } => run_clustered(alloc, halls, workers, every, text),
         Request::Max { slices } => optimize(alloc, slices, text),
         Request::Core { slices } => minimize(alloc, slices, text),
         Request::Generate { seed, jobs } => generate_text(alloc, seed, jobs),

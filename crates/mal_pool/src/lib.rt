@@ -26,6 +26,6 @@ pub use mal_hall::Size;
 pub use mal_turn::InUse;
 pub use mutex::{Noted, OwnCalls, Shared};
 pub use run::{run_all, run_with};
-pub use running::run_alone;
+pub use running::{post_script, run_alone};
 pub use shared::HallBox;
 pub use working::{End, work_loop};

@@ -50,8 +50,9 @@ fn run_in(alloc: Global, hall: &mut Hall, script: &Script) -> Result<(), AllocEr
     Ok(())
 }
 
-/// Posts a script in a hall without events.
-fn post_script(hall: &mut Hall, script: &Script) -> Result<(), AllocError>
+/// Posts a script in a hall without events: all jobs are opened, and then job by job its steps and its closing are posted,
+/// in the order of the script.
+pub fn post_script(hall: &mut Hall, script: &Script) -> Result<(), AllocError>
     requires new { hall.old.events ≡ [] }
     ensures workers { hall.new.workers ≡ hall.old.workers }
     ensures events { OnOk result (hall.new.events ≡ script_events script.now) }

@@ -3,14 +3,14 @@
 
 ghost use Rattle.std.specs.Prelude.{◌≡◌, false, IfOk};
 ghost use Rattle.clap.specs.{Words.{app_of, rule_of}, declared.builder.command.Command.TheViews.{out-Command as fields_of}};
-ghost use Rattle.mal_answer.specs.{CommandLine.{app_with, bare_app, bare_mal, gen_app, mal_app, option_rule}, Usage.{usage_line}};
+ghost use Rattle.mal_answer.specs.{CommandLine.{app_with, bare_app, bare_mal, cluster_app, gen_app, mal_app, option_rule}, Usage.{usage_line}};
 
 use clap::{Arg, Command};
 use std::alloc::{AllocError, Global};
 
 /// The commands with their options.
 const USAGE: &[u8] =
-    b"usage: mal run --workers N, check, replay, gen --seed S --jobs N [--workers W], json, max --slices N, core --slices N\n";
+    b"usage: mal run --workers N, check, replay, gen --seed S --jobs N [--workers W], json, cluster --halls H --workers N --every K, max --slices N, core --slices N\n";
 
 /// The line for words that ask for nothing: each command with its options.
 pub fn usage_line() -> &'static [u8]
@@ -29,6 +29,7 @@ pub fn command<'a>(alloc: Global) -> Result<Command<'a>, AllocError>
         .subcommand(bare(alloc, "replay"))?
         .subcommand(generate(alloc)?)?
         .subcommand(bare(alloc, "json"))?
+        .subcommand(cluster(alloc)?)?
         .subcommand(with_number(alloc, "max", "slices")?)?
         .subcommand(with_number(alloc, "core", "slices")?)
 }
@@ -60,6 +61,17 @@ fn generate<'a>(alloc: Global) -> Result<Command<'a>, AllocError>
         .arg(option(alloc, "seed", true))?
         .arg(option(alloc, "jobs", true))?
         .arg(option(alloc, "workers", false))
+}
+
+/// `cluster --halls H --workers N --every K`.
+fn cluster<'a>(alloc: Global) -> Result<Command<'a>, AllocError>
+    ensures app { IfOk result (λ c. app_of c ≡ cluster_app) }
+    ensures local { IfOk result (λ c. (fields_of c).has_globals ≡ false) }
+{
+    bare(alloc, "cluster")
+        .arg(option(alloc, "halls", true))?
+        .arg(option(alloc, "workers", true))?
+        .arg(option(alloc, "every", true))
 }
 
 /// A command of this name without arguments and without a help flag.

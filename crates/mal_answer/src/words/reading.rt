@@ -2,7 +2,7 @@
 
 ghost use Rattle.std.specs.Prelude.{◌≡◌, IfOk, IfSome, Some, codes, map, option_map, string_bytes};
 ghost use Rattle.clap.specs.Words.{first_of, found_of, rows_of, subcommand_rows_of};
-ghost use Rattle.mal_answer.specs.{Forms.{core_form, gen_form, generate_of, max_form, number_in, run_form}, Requests.{IsRequest, asked, asked_in}, Found.{IsMeaning}};
+ghost use Rattle.mal_answer.specs.{Forms.{cluster_form, cluster_of, core_form, gen_form, generate_of, max_form, number_in, run_form}, Requests.{IsRequest, asked, asked_in}, Found.{IsMeaning}};
 
 use crate::words::command::command;
 use crate::words::number::number;
@@ -57,6 +57,9 @@ fn request_named(name: &str, options: &ArgMatches<'_>) -> Option<Request>
     if name == "json" {
         return Some(Request::Json);
     }
+    if name == "cluster" {
+        return cluster_with(options);
+    }
     if name == "max" {
         return max_with(options);
     }
@@ -72,6 +75,34 @@ fn run_with(options: &ArgMatches<'_>) -> Option<Request>
 {
     match number_in(options, "workers", 1, 64) {
         Some(workers) => Some(Request::Run { workers }),
+        None => None,
+    }
+}
+
+/// What `cluster` asks for with these options.
+fn cluster_with(options: &ArgMatches<'_>) -> Option<Request>
+    ensures { result ≡ cluster_form.asks (rows_of (found_of options.now)) }
+{
+    match number_in(options, "halls", 2, 8) {
+        Some(halls) => match number_in(options, "workers", 1, 64) {
+            Some(workers) => cluster_by(options, halls, workers),
+            None => None,
+        },
+        None => None,
+    }
+}
+
+/// What `cluster` asks for with these options, of which the numbers of halls and of workers are known.
+fn cluster_by(options: &ArgMatches<'_>, halls: u32, workers: u32) -> Option<Request>
+    ensures { result
+        ≡ cluster_of (Some halls) (Some workers) (number_in 1 1000 (first_of (codes "every") (rows_of (found_of options.now)))) }
+{
+    match number_in(options, "every", 1, 1000) {
+        Some(every) => Some(Request::Cluster {
+            halls,
+            workers,
+            every,
+        }),
         None => None,
     }
 }
