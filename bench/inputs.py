@@ -159,6 +159,28 @@ def write_many(out: TextIO) -> None:
             print(f"j j{job} {1 + job % 9} 1 64\np cnf 2 1\n1 2 0\na 0\ne", file=out)
 
 
+def write_moved(out: TextIO, seed: str = "1", jobs: str = "64", revisions: str = "16") -> None:
+    """So many jobs of 213 clauses of three literals over 50 variables, which are satisfiable, each asked so often under another
+    assumption."""
+    draw = random.Random(int(seed))
+    print("t t", file=out)
+    for job in range(int(jobs)):
+        print(f"j j{job} 1 1 {SLICES}", file=out)
+        clauses = list(planted(draw, 50, 213))
+        for _ in range(int(revisions)):
+            block(out, 50, len(clauses), clauses)
+            print("a " + literals([draw.choice((v, -v)) for v in draw.sample(range(1, 51), 1)]), file=out)
+            clauses = []
+        print("e", file=out)
+
+
+def write_heavy(out: TextIO, seed: str = "1", revisions: str = "8") -> None:
+    """A job of 2^18 easy clauses over 65,536 variables, asked so often under another assumption."""
+    draw = random.Random(int(seed))
+    clauses = list(easy(draw, MOST_VARIABLES, 1 << 18))
+    questions(out, MOST_VARIABLES, clauses, SLICES, ([-v] for v in range(1, int(revisions) + 1)))
+
+
 def write_optimum(out: TextIO, seed: str = "1") -> None:
     """800 clauses of three literals over 200 variables, which are satisfiable, and 128 soft literals."""
     draw = random.Random(int(seed))
@@ -235,6 +257,8 @@ WRITERS: dict[str, tuple[Callable[..., None], str]] = {
     "assumptions": (write_assumptions, ": 65,536 assumptions and no clause, a job"),
     "revisions": (write_revisions, "[SEED [REVISIONS [CLAUSES]]]: 256 revisions of 2,000 easy clauses each, a job"),
     "many": (write_many, ": 4,096 jobs of one clause each"),
+    "moved": (write_moved, "[SEED [JOBS [REVISIONS]]]: 64 jobs of 50 variables that are asked 16 times each"),
+    "heavy": (write_heavy, "[SEED [REVISIONS]]: 2^18 easy clauses that are asked about 8 times, a job"),
     "optimum": (write_optimum, "[SEED]: 128 soft literals and 800 clauses over 200 variables, an input of max"),
     "cheaper": (write_cheaper, "INPUT SLICES COST..: an input of max as a job, asked for a model below each cost"),
     "options": (write_options, "[SEED]: 255 assumptions for 900 clauses over 45 variables, an input of core"),
