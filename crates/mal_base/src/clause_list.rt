@@ -5,6 +5,7 @@ ghost use Rattle.mal_base.specs.{Clauses.{rises}, Formulas.{literals_of}};
 
 use crate::clause::Clause;
 use crate::literal::Lit;
+use crate::room::grown;
 use std::alloc::{AllocError, Global};
 use std::marker::Model;
 
@@ -70,9 +71,7 @@ impl ClauseList {
         ensures ok { OnOk result (self.new ≡ self.old ++ Some lits.now ∷ []) }
         ensures err { OnErr result (self.new ≡ self.old) }
     {
-        if MOST - self.literals.len() < lits.len() {
-            return Err(AllocError);
-        }
+        grown(self.literals.len(), lits.len(), MOST)?;
         self.marks.reserve(1)?;
         self.literals.extend_from_slice(lits)?;
         self.marks.push_reserved(2 * self.literals.len() as u32);

@@ -1,11 +1,10 @@
 //! The names of tenants and jobs.
 
-ghost use Rattle.std.specs.Prelude.{◌≡◌, ◌≢◌, ℕ, ◌-◌, ◌<◌, ◌++◌, List, Some, true, length, take, refl, replicate, IfOk, MatchOption};
+ghost use Rattle.std.specs.Prelude.{◌≡◌, ◌≢◌, ℕ, ◌-◌, ◌<◌, ◌++◌, List, Some, true, length, take, refl, replicate, MatchOption};
 ghost use Rattle.std.specs.{List.{list_all}, Str.{bytes_eq}, Cmp.Rules.{comparing}, Cmp.Lexicographic.{slice_cmp, nat_list_cmp_total, texts_ties, texts_po}, Ordering.{nat_cmp}};
 ghost use Rattle.std.proofs.Common.{rules};
 ghost use Rattle.mal_base.specs.Names.{is_name, is_name_byte};
 
-use std::alloc::{AllocError, Global};
 use std::cmp::Ordering;
 use std::marker::Model;
 
@@ -73,22 +72,20 @@ impl Ord for Name {
 }
 
 impl Name {
-    /// The name of these bytes. None exactly where they are no name. Takes an allocator and answers a Result as makers
-    /// of collections do, and never asks for memory: a name is held inline, so that events carry names without taking
-    /// any.
-    pub fn of(_alloc: Global, text: &[u8]) -> Result<Option<Name>, AllocError>
-        ensures { IfOk result
-            (λ o. MatchOption o (is_name text.now ≢ true) (λ n. (n ≡ text.now) × (is_name text.now ≡ true))) }
+    /// The name of these bytes. None exactly where they are no name. Asks for no memory: a name is held inline, so that
+    /// events carry names without taking any.
+    pub fn of(text: &[u8]) -> Option<Name>
+        ensures { MatchOption result (is_name text.now ≢ true) (λ n. (n ≡ text.now) × (is_name text.now ≡ true)) }
     {
         if !is_name_text(text) {
-            return Ok(None);
+            return None;
         }
         let mut bytes = [0; 32];
         bytes[..text.len()].copy_from_slice(text);
-        Ok(Some(Name {
+        Some(Name {
             bytes,
             len: text.len(),
-        }))
+        })
     }
 
     /// The bytes of the name.
