@@ -2,3 +2,4 @@
 mod Made
 mod Texts
 mod Answered
+mod Rows

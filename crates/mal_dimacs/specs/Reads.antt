@@ -1,5 +1,7 @@
 -- What an answer is to the definitions of reading: it is theirs, unless memory ran out.
-use Rattle.std.specs.Prelude.{◌≡◌, ℕ, Result, Ok, Err}
+use Rattle.std.specs.Prelude.{◌≡◌, ℕ, List, Result, Ok, Err}
+use Rattle.spec_text.specs.Numbers.{NumberWord}
+use Rattle.spec_dimacs.specs.Reading.{Block, ◌>>=◌, after_number, after_words}
 use Rattle.mal_base.specs.declared.block_fault.BlockFault.{BlockFault}
 use Rattle.mal_dimacs.specs.declared.fault.DimacsError.{DimacsError}
 use Rattle.mal_dimacs.specs.declared.fault.DimacsError.TheVariants as error
@@ -35,3 +37,7 @@ FailsAt located.OutOfMemory reading = Unit {0}
 abbrev pub GivesAt : {X : Type 0} → Result X DimacsFault → Result X (ℕ × BlockFault) → Type 0
 GivesAt (Ok x) reading = reading ≡ Ok x
 GivesAt (Err e) reading = FailsAt e reading
+
+-- after a word that says this and the words behind it
+abbrev pub after_said : NumberWord → List (List ℕ) → Block → Result Block BlockFault
+after_said said words b = after_number said b >>= after_words words

@@ -1,17 +1,20 @@
 //! A reader of one block: a header and the lines of clauses behind it.
 
-ghost use Rattle.std.specs.Prelude.{◌≡◌, ◌≤◌, ◌∷◌, ◌++◌, [], true, nat_abs, Ok, OnOk, OnErr};
+ghost use Rattle.std.specs.Prelude.{◌≡◌, ◌+◌, ◌<◌, ◌≤◌, ◌∷◌, ◌++◌, [], true, length, nat_abs, Ok, Err, OnOk, OnErr, IfSome};
 ghost use Rattle.mal_base.specs.{Clauses.{rises}, Formulas.{is_clause_of, size_of}};
 ghost use Rattle.spec_text.specs.{Inputs.{words_of}, Numbers.{number_in}};
 ghost use Rattle.spec_dimacs.specs.{Merged.{clause_of}, Blocks.{IsBlock}, Reading.{Block, after_counted, after_number, after_percent, after_row, after_words, after_zero, closed, code_of, ended, opened}};
-ghost use Rattle.mal_dimacs.specs.{Merged.{merged}, Reads.{Gives, Leaves}};
+ghost use Rattle.mal_text.specs.Numbers.{said_within};
+ghost use Rattle.mal_dimacs.specs.{Merged.{merged}, Reads.{Gives, Leaves, after_said}};
 ghost use Rattle.mal_base.specs.declared.stage.Stage.TheVariants as stage;
+ghost use Rattle.mal_base.specs.declared.{block_fault.BlockFault.TheVariants.{Limit}, limit_kind.LimitKind.TheVariants.{Literals}};
+ghost use Rattle.mal_dimacs.specs.declared.fault.DimacsError.TheVariants.{Fault};
 
 use crate::fault::DimacsError;
 use crate::header::counts;
 use crate::words::{is_comment, literal, merge};
 use mal_base::{BlockFault, ClauseList, Formula, LimitKind, Lit, Stage};
-use mal_text::{NumberFault, first_word, number};
+use mal_text::{NumberFault, begins_number, first_word, number, number_in_front};
 use std::alloc::{AllocError, Global};
 use std::marker::Model;
 
@@ -69,83 +72,138 @@ impl BlockReader {
     pub fn row(self, line: &[u8]) -> Result<BlockReader, DimacsError>
         ensures { Gives result (after_row (words_of line.now) self) }
     {
+        let mut reader = self;
+        reader.take_row(line)?;
+        Ok(reader)
+    }
+
+    /// Reads one more line in place: what it leaves is what `row` answers. After an error nothing is said of what is
+    /// left.
+    pub fn take_row(&mut self, line: &[u8]) -> Result<(), DimacsError>
+        ensures { Leaves result self.new (after_row (words_of line.now) self.old) }
+    {
+        if self.is_at_numbers(line) {
+            return self.read_numbers(line);
+        }
+        self.take_other(line)
+    }
+
+    /// Whether a line is one of numbers here, as its first byte tells. One that is not may be one all the same.
+    #[tactic(auto, using(crate::proofs::Rows::is_number_row))]
+    fn is_at_numbers(&self, line: &[u8]) -> bool
+        ensures { result ≡ true → after_row (words_of line.now) self.now ≡ after_words (words_of line.now) self.now }
+    {
+        match self.stage {
+            Stage::Clauses => begins_number(line),
+            _ => false,
+        }
+    }
+
+    /// Reads one more line in place, by its first word.
+    fn take_other(&mut self, line: &[u8]) -> Result<(), DimacsError>
+        ensures { Leaves result self.new (after_row (words_of line.now) self.old) }
+    {
         let Some((first, rest)) = first_word(line) else {
-            return Ok(self);
+            return Ok(());
         };
         if is_comment(first) {
-            return Ok(self);
+            return Ok(());
         }
         if first == b"p".as_slice() {
             return Err(DimacsError::Fault(BlockFault::BadHeader));
         }
-        self.counted_row(line, first, rest)
+        self.take_counted(line, first, rest)
     }
 
-    /// The reader behind a line that counts and does not begin with `p`.
-    fn counted_row(self, line: &[u8], first: &[u8], rest: &[u8]) -> Result<BlockReader, DimacsError>
+    /// Reads a line that counts and does not begin with `p`.
+    fn take_counted(&mut self, line: &[u8], first: &[u8], rest: &[u8]) -> Result<(), DimacsError>
         requires { words_of line.now ≡ first.now ∷ words_of rest.now }
-        ensures { Gives result (after_counted self.stage first.now (words_of rest.now) self) }
+        ensures { Leaves result self.new (after_counted self.old.stage first.now (words_of rest.now) self.old) }
     {
         match self.stage {
-            Stage::Clauses => self.clause_row(line, first, rest),
-            Stage::Percent => self.zero_row(first, rest),
+            Stage::Clauses => self.take_clauses(line, first, rest),
+            Stage::Percent => self.take_zero(first, rest),
             Stage::Zero => Err(DimacsError::Fault(BlockFault::Trailing)),
         }
     }
 
-    /// The reader behind a line of clauses, or the line `%`.
-    fn clause_row(self, line: &[u8], first: &[u8], rest: &[u8]) -> Result<BlockReader, DimacsError>
+    /// Reads a line of clauses, or the line `%`.
+    fn take_clauses(&mut self, line: &[u8], first: &[u8], rest: &[u8]) -> Result<(), DimacsError>
         requires { words_of line.now ≡ first.now ∷ words_of rest.now }
-        ensures { Gives result (after_counted stage.Clauses first.now (words_of rest.now) self) }
+        ensures { Leaves result self.new (after_counted stage.Clauses first.now (words_of rest.now) self.old) }
     {
         if first == b"%".as_slice() {
-            self.percent_row(rest)
+            self.take_percent(rest)
         } else {
-            self.number_row(line)
+            self.read_numbers(line)
         }
     }
 
-    /// The reader behind the line `%`, given what stands behind that word.
-    fn percent_row(self, rest: &[u8]) -> Result<BlockReader, DimacsError>
-        ensures { Gives result (after_percent (words_of rest.now) self) }
+    /// Reads the line `%`, given what stands behind that word.
+    fn take_percent(&mut self, rest: &[u8]) -> Result<(), DimacsError>
+        ensures { Leaves result self.new (after_percent (words_of rest.now) self.old) }
     {
         match first_word(rest) {
-            None => Ok(self.at(Stage::Percent)),
+            None => {
+                self.stage = Stage::Percent;
+                Ok(())
+            }
             Some(_) => Err(DimacsError::Fault(BlockFault::Trailing)),
         }
     }
 
-    /// The reader behind the line `0`.
-    fn zero_row(self, first: &[u8], rest: &[u8]) -> Result<BlockReader, DimacsError>
-        ensures { Gives result (after_zero first.now (words_of rest.now) self) }
+    /// Reads the line `0`.
+    fn take_zero(&mut self, first: &[u8], rest: &[u8]) -> Result<(), DimacsError>
+        ensures { Leaves result self.new (after_zero first.now (words_of rest.now) self.old) }
     {
         match first_word(rest) {
             // Numbers count by value, but behind % only the word 0 itself may stand.
-            None if first == b"0".as_slice() => Ok(self.at(Stage::Zero)),
+            None if first == b"0".as_slice() => {
+                self.stage = Stage::Zero;
+                Ok(())
+            }
             _ => Err(DimacsError::Fault(BlockFault::Trailing)),
         }
     }
 
-    /// The same reader at another stage.
-    fn at(self, stage: Stage) -> BlockReader
-        ensures { result ≡ record self { stage = stage } }
-    {
-        let mut reader = self;
-        reader.stage = stage;
-        reader
-    }
-
-    /// The reader behind a line of numbers.
-    fn number_row(self, line: &[u8]) -> Result<BlockReader, DimacsError>
-        ensures { Gives result (after_words (words_of line.now) self) }
-    {
-        let mut reader = self;
-        reader.read_numbers(line)?;
-        Ok(reader)
-    }
-
-    /// Reads the numbers of a line.
+    /// Reads the numbers of a line, each in one pass over its bytes as far as they are plainly written, and then word by
+    /// word.
     fn read_numbers(&mut self, line: &[u8]) -> Result<(), DimacsError>
+        ensures { Leaves result self.new (after_words (words_of line.now) self.old) }
+    {
+        let mut rest = line;
+        while let Some((number, behind)) = self.number_at(rest) {
+            self.take_number(number)?;
+            rest = behind;
+        }
+        self.read_words(rest)
+    }
+
+    /// The number that a line begins with, where it is plainly written, and the line behind it.
+    fn number_at<'a>(&self, line: &'a [u8]) -> Option<(i64, &'a [u8])>
+        ensures next { IfSome result
+            (λ cut. after_words (words_of line.now) self.now
+            ≡ after_said (said_within self.now.variables cut.0) (words_of cut.1.now) self.now) }
+        ensures shorter { IfSome result (λ cut. length cut.1.now < length line.now) }
+    {
+        number_in_front(line)
+    }
+
+    /// Takes a number, which is a literal or the 0 that closes a clause.
+    fn take_number(&mut self, number: i64) -> Result<(), DimacsError>
+        ensures { Leaves result self.new (after_number (said_within self.old.variables number) self.old) }
+    {
+        if number.unsigned_abs() > u64::from(self.variables) {
+            return Err(DimacsError::Fault(BlockFault::VarTooLarge));
+        }
+        match number {
+            0 => self.close(),
+            number => self.push(number),
+        }
+    }
+
+    /// Reads words, each of which is a number.
+    fn read_words(&mut self, line: &[u8]) -> Result<(), DimacsError>
         ensures { Leaves result self.new (after_words (words_of line.now) self.old) }
     {
         let mut rest = line;
@@ -191,7 +249,10 @@ impl BlockReader {
     /// is kept where it is one of those declared.
     fn add(&mut self, is_clause: bool) -> Result<(), DimacsError>
         requires { is_clause_of self.old.variables (merged is_clause self.old.pending) ≡ true }
-        ensures { Leaves result self.new (closed (merged is_clause self.old.pending) self.old) }
+        ensures left { Leaves result self.new (closed (merged is_clause self.old.pending) self.old) }
+        // Beyond 2^24 literals want of memory is never the answer.
+        ensures full { 16777216 < self.old.literals + size_of (merged is_clause self.old.pending)
+            → result ≡ Err (Fault (Limit Literals)) }
     {
         let size = size_of(is_clause, self.pending.as_slice());
         let left = (1 << 24) - self.literals as usize;

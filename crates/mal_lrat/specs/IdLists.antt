@@ -1,14 +1,12 @@
 -- The numbers at the end of a line, as they are read in one go.
-use Rattle.std.specs.Prelude.{◌≡◌, ℕ, Bool, ◌||◌, List, ◌∷◌, ℤ, pos, nat_le, if◌then◌else◌, Option, Some, None, Result, Ok, Err}
+use Rattle.std.specs.Prelude.{ℕ, Bool, ◌||◌, List, ℤ, nat_le, if◌then◌else◌, Option, Some, None, Result, Ok, Err}
 use Rattle.std.specs.List.{list_any}
 use Rattle.std.specs.Option.{option_map}
-use Rattle.spec_text.specs.Inputs.{words_of}
 use Rattle.spec_text.specs.Numbers.{number_in}
-use Rattle.spec_text.specs.Numbers.NumberWord.{Number}
 use Rattle.spec_logic.specs.Refutation.{ProofLine}
 use Rattle.spec_logic.specs.Refutation.ProofLine.{Add}
 use Rattle.spec_dimacs.specs.Merged.{clause_of}
-use Rattle.spec_lrat.specs.Reading.{Fault, greatest_id, is_end, is_negative, are_closed, ids_of, numbers_of, literal_said}
+use Rattle.spec_lrat.specs.Reading.{Fault, is_end, is_negative, are_closed, ids_of, numbers_of, literal_said}
 use Rattle.spec_lrat.specs.Reading.Fault.{MissingZero, IdNotRising, NegativeHint}
 use Rattle.mal_lrat.specs.declared.reading.IdList.{IdList}
 
@@ -28,10 +26,6 @@ listing l = record { ids = l.ids.items; negative = l.has_negative; closed = l.is
 -- what words say, none where one says no number
 abbrev pub list_said : List (List ℕ) → Option Listed
 list_said words = option_map listed (numbers_of words)
-
--- a line begins with a word that says this number, and these are the words behind it
-abbrev pub BeginsWith : List ℕ → ℕ → List (List ℕ) → Type 0
-BeginsWith line n words = (word : List ℕ) × (words_of line ≡ word ∷ words) × (number_in word greatest_id ≡ Number (pos n))
 
 -- a number was negative before, or one of these is
 abbrev pub negative_behind : Bool → List ℤ → Bool

@@ -4,7 +4,6 @@
 
 mod fault;
 mod line;
-mod plain;
 mod reading;
 mod writing;
 

@@ -9,9 +9,8 @@ ghost use Rattle.mal_lrat.specs.{LineView.{seen}, IdLists.{listing, list_said, n
 
 use crate::fault::LineFault;
 use crate::line::Line;
-use crate::plain::digits_in_front;
 use mal_base::{Clause, ClauseId, Lit};
-use mal_text::{first_word, number};
+use mal_text::{first_word, number, number_in_front};
 use std::alloc::{AllocError, Global};
 
 /// The greatest id of a clause in a proof.
@@ -243,8 +242,8 @@ fn first_number(line: &[u8]) -> Result<Option<(i64, &[u8])>, LineFault>
     ensures number { CutsNumber (λ cut. cut.0) (λ cut. words_of cut.1.now) result (words_of line.now) }
     ensures shorter { IfOk result (λ o. IfSome o (λ cut. length cut.1.now < length line.now)) }
 {
-    match digits_in_front(line) {
-        Some((number, behind)) => Ok(Some((number as i64, behind))),
+    match number_in_front(line) {
+        Some((number, behind)) => Ok(Some((number, behind))),
         None => number_of_word(line),
     }
 }

@@ -8,7 +8,7 @@ pub mod taker;
 pub mod write;
 
 pub use asks::put_ask;
-pub use numbers::{NumberFault, magnitude, number};
+pub use numbers::{NumberFault, begins_number, magnitude, number, number_in_front};
 pub use read::{first_line, first_word, is_word_line, words};
 pub use taker::Taker;
 pub use write::{end_line, put_decimal, put_line, put_number, put_word};

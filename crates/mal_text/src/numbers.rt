@@ -13,6 +13,8 @@ pub enum NumberFault {
     TooLarge,
 }
 
+mod front;
 mod reading;
 
+pub use front::{begins_number, number_in_front};
 pub use reading::{magnitude, number};
