@@ -9,8 +9,9 @@ ghost use Rattle.mal_json.specs.ReadResult.{Gives};
 use crate::numbers;
 use crate::shape::{is_revision, names};
 use crate::steps::{all_stepped, limit};
+use crate::taken::{has_job, has_room};
 use mal_base::{LimitKind, Name};
-use mal_script::{Limits, ScriptJob, has_job, has_room, is_among};
+use mal_script::{Limits, ScriptJob, is_among};
 use serde_json::Value;
 use spec_json::JsonFault;
 use std::alloc::Global;
@@ -141,7 +142,7 @@ impl Jobs {
     pub fn with_job(self, value: &Value) -> Result<Jobs, JsonFault>
         ensures { Gives (λ j. j) result (with_job served self (view value.now)) }
     {
-        match names(*self.jobs.allocator(), value)? {
+        match names(value) {
             Some((tenant, name)) => self.asked(tenant, name, value),
             None => Err(JsonFault::Shape {
                 job: self.next_number(),

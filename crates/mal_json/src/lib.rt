@@ -8,6 +8,7 @@ mod parsing;
 mod reading;
 mod shape;
 mod steps;
+mod taken;
 mod telling;
 
 pub use reading::read;

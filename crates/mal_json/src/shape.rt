@@ -1,13 +1,12 @@
 //! What the values of a description have to look like.
 
-ghost use Rattle.std.specs.Prelude.{◌≡◌, codes, false, is_some, if◌then◌else◌, map, true, IfOk, MatchOption};
+ghost use Rattle.std.specs.Prelude.{◌≡◌, codes, false, is_some, if◌then◌else◌, map, true, MatchOption};
 ghost use Rattle.std.specs.List.{list_all};
 ghost use Rattle.serde_json.specs.{Find.{get}, View.{view}};
 ghost use Rattle.spec_json.specs.Shape.{at, has, has_ask_shape, has_job_frame, is_document_shape, is_job_shape, is_list, is_list_of, is_name_text, is_numbers, is_revision, is_revision_shape, is_step_shape, is_weight_shape, is_whole, items_in, key_count, may_have, text_in};
 
 use mal_base::Name;
 use serde_json::Value;
-use std::alloc::{AllocError, Global};
 
 /// How many keys an object has; 0 of another value.
 #[tactic(auto, using(crate::proofs::Items::keys_of))]
@@ -178,27 +177,19 @@ fn may_have_whole(value: &Value, key: &str) -> bool
 }
 
 /// The name that a value is. None exactly where it is none.
-fn name(alloc: Global, value: &Value) -> Result<Option<Name>, AllocError>
-    ensures { IfOk result
-        (λ o. MatchOption o (is_name_text (view value.now) ≡ false)
-        (λ n. (n ≡ text_in (view value.now)) × (is_name_text (view value.now) ≡ true))) }
+fn name(value: &Value) -> Option<Name>
+    ensures { MatchOption result (is_name_text (view value.now) ≡ false)
+        (λ n. (n ≡ text_in (view value.now)) × (is_name_text (view value.now) ≡ true)) }
 {
-    match value.as_str() {
-        None => Ok(None),
-        Some(text) => Name::of(alloc, text.as_bytes()),
-    }
+    Name::of(value.as_str()?.as_bytes())
 }
 
 /// The name under a key. None exactly where there is none.
-fn name_at(alloc: Global, value: &Value, key: &str) -> Result<Option<Name>, AllocError>
-    ensures { IfOk result
-        (λ o. MatchOption o (has is_name_text key.now (view value.now) ≡ false)
-        (λ n. (n ≡ text_in (at key.now (view value.now))) × (has is_name_text key.now (view value.now) ≡ true))) }
+fn name_at(value: &Value, key: &str) -> Option<Name>
+    ensures { MatchOption result (has is_name_text key.now (view value.now) ≡ false)
+        (λ n. (n ≡ text_in (at key.now (view value.now))) × (has is_name_text key.now (view value.now) ≡ true)) }
 {
-    match value.get(key) {
-        None => Ok(None),
-        Some(found) => name(alloc, found),
-    }
+    name(value.get(key)?)
 }
 
 /// Whether a value has the numbers that a job asks for.
@@ -227,26 +218,20 @@ fn has_job_frame(value: &Value) -> bool
 }
 
 /// The tenant and the name of a job. None exactly where a value has not the shape of a job.
-pub fn names(alloc: Global, value: &Value) -> Result<Option<(Name, Name)>, AllocError>
-    ensures shape { IfOk result
-        (λ o. MatchOption o (is_job_shape (view value.now) ≡ false) (λ n. is_job_shape (view value.now) ≡ true)) }
-    ensures tenant { IfOk result
-        (λ o. MatchOption o (is_job_shape (view value.now) ≡ false)
-        (λ n. n.0 ≡ text_in (at (codes "tenant") (view value.now)))) }
-    ensures name { IfOk result
-        (λ o. MatchOption o (is_job_shape (view value.now) ≡ false)
-        (λ n. n.1 ≡ text_in (at (codes "name") (view value.now)))) }
+pub fn names(value: &Value) -> Option<(Name, Name)>
+    ensures shape { MatchOption result (is_job_shape (view value.now) ≡ false)
+        (λ n. is_job_shape (view value.now) ≡ true) }
+    ensures tenant { MatchOption result (is_job_shape (view value.now) ≡ false)
+        (λ n. n.0 ≡ text_in (at (codes "tenant") (view value.now))) }
+    ensures name { MatchOption result (is_job_shape (view value.now) ≡ false)
+        (λ n. n.1 ≡ text_in (at (codes "name") (view value.now))) }
 {
     if !has_job_frame(value) {
-        return Ok(None);
+        return None;
     }
-    let Some(tenant) = name_at(alloc, value, "tenant")? else {
-        return Ok(None);
-    };
-    match name_at(alloc, value, "name")? {
-        None => Ok(None),
-        Some(name) => Ok(Some((tenant, name))),
-    }
+    let tenant = name_at(value, "tenant")?;
+    let name = name_at(value, "name")?;
+    Some((tenant, name))
 }
 
 /// Whether a value has exactly jobs, a list.

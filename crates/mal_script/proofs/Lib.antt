@@ -4,3 +4,5 @@ mod Steps
 mod Found
 mod Counted
 pub mod GenerateSteps
+mod InPlace
+mod Names

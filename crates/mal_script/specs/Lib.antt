@@ -1,2 +1,4 @@
 pub mod ReadResult
 pub mod Counting
+pub mod InPlace
+pub mod TakenNames

@@ -25,6 +25,11 @@ abbrev pub Gives : {X Y : Type 0} → (X → Y) → Result X LineRefusal → Res
 Gives view (Ok x) read = read ≡ Ok (view x)
 Gives view (Err e) read = Fails e read
 
+-- what changes a value in place leaves what reading gives, unless memory ran out
+abbrev pub Leaves : {U Y : Type 0} → Result U LineRefusal → Y → Result Y LineFault → Type 0
+Leaves (Ok u) left read = read ≡ Ok left
+Leaves (Err e) left read = Fails e read
+
 -- the same with the fault's line
 abbrev pub FailsAt : {Y : Type 0} → ScriptFault → Result Y (ℕ × LineFault) → Type 0
 FailsAt (script.Line n fault) read = read ≡ Err (n, fault)

@@ -65,7 +65,7 @@ fn numbered(alloc: Global, letter: u8, number: u32) -> Result<Name, AllocError>
     let mut text = Vec::new(alloc);
     text.push(letter)?;
     text.extend_from_slice(buffer.format(number).as_bytes())?;
-    match Name::of(alloc, text.as_slice())? {
+    match Name::of(text.as_slice()) {
         Some(name) => Ok(name),
         None => unreachable!(),
     }

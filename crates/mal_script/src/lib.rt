@@ -22,6 +22,6 @@ pub use limits::Limits;
 pub use reading::read;
 pub use script::{Script, ScriptJob, revisions_of};
 pub use spec_script::Step;
-pub use taken::{has_job, has_room, is_among};
+pub use taken::is_among;
 pub use telling::{fault_line, line_fault_line, which_word};
 pub use writing::write;

@@ -1,10 +1,10 @@
 //! A job that has begun and not ended.
 
-ghost use Rattle.std.specs.Prelude.{◌≡◌, ◌+◌, ◌≤◌, ◌∷◌, length, true, Some, Ok, IfOk};
+ghost use Rattle.std.specs.Prelude.{◌≡◌, ◌+◌, ◌≤◌, ◌∷◌, length, true, is_some, Some, Ok, IfOk};
 ghost use Rattle.mal_base.specs.{Clauses.{rises}, Formulas.{is_formula, is_within, literals_of}};
 ghost use Rattle.spec_text.specs.Inputs.{words_of};
 ghost use Rattle.spec_script.specs.{Assumptions.{assumptions_in}, Reading.{begun, with_block, after_header, revised, after_assumptions, after_weight, inside_block, with_revision, with_weight, ended_job, unended, without_block}};
-ghost use Rattle.mal_script.specs.ReadResult.{Fails, Gives};
+ghost use Rattle.mal_script.specs.{InPlace.{in_block_of}, ReadResult.{Fails, Gives, Leaves}};
 
 use crate::asks::weight_in;
 use crate::assuming::assumptions_in;
@@ -65,14 +65,14 @@ impl OpenJob {
         }
     }
 
-    /// After the header of a block, which is this line.
-    pub fn after_header(self, limits: Limits, line: &[u8]) -> Result<OpenJob, LineRefusal>
-        ensures { Gives (λ o. o) result (after_header limits (words_of line.now) self) }
+    /// After the header of a block, which is this line. Takes no memory.
+    pub fn after_header(self, limits: Limits, line: &[u8]) -> Result<OpenJob, LineFault>
+        ensures { result ≡ after_header limits (words_of line.now) self }
     {
         if self.posted >= limits.revisions {
-            return Err(LineRefusal::Fault(LineFault::Limit {
+            return Err(LineFault::Limit {
                 which: LimitKind::Revisions,
-            }));
+            });
         }
         let block = blocks::opened(self.job.allocator(), line)?;
         Ok(self.with_block(block))
@@ -171,7 +171,10 @@ impl OpenJob {
         ensures { Gives (λ o. o) result (after_assumptions (words_of words.now) self block) }
     {
         // The faults of the block's end come before the line's own.
-        let formula = blocks::ended(block)?;
+        let formula = match blocks::ended(block) {
+            Ok(formula) => formula,
+            Err(fault) => return Err(LineRefusal::Fault(fault)),
+        };
         let assumptions = assumed(self.job.allocator(), words, formula.variables())?;
         self.revised(formula, assumptions.as_slice())
     }
@@ -186,6 +189,23 @@ impl OpenJob {
         }
         let block = blocks::after_row(block, split.line)?;
         Ok(self.with_block(block))
+    }
+
+    /// Whether a block has begun and not ended.
+    pub fn has_block(&self) -> bool
+        ensures { result ≡ is_some self.now.block }
+    {
+        self.block.is_some()
+    }
+
+    /// Reads a line of numbers of its block in place. Without a block nothing is changed.
+    pub fn take_numbers(&mut self, line: &[u8]) -> Result<(), LineRefusal>
+        ensures { Leaves result self.new (in_block_of (words_of line.now) self.old self.old.block) }
+    {
+        if let Some(block) = &mut self.block {
+            return blocks::take_row(block, line);
+        }
+        Ok(())
     }
 
     /// The job with one more change of what it asks for, and without its block.
@@ -228,7 +248,7 @@ fn unended(block: BlockReader) -> LineRefusal
 {
     match blocks::ended(block) {
         Ok(_formula) => LineRefusal::Fault(LineFault::BadLine),
-        Err(refusal) => refusal,
+        Err(fault) => LineRefusal::Fault(fault),
     }
 }
 

@@ -1,27 +1,30 @@
 //! A script of which some lines were read.
 
-ghost use Rattle.std.specs.Prelude.{◌≡◌, ◌≢◌, ◌∷◌, [], ℕ, List, MatchOption};
+ghost use Rattle.std.specs.Prelude.{◌≡◌, ◌≢◌, ◌∷◌, [], true, ℕ, List, MatchOption};
+ghost use Rattle.std.specs.List.{list_any};
 ghost use Rattle.spec_text.specs.Inputs.{words_of};
-ghost use Rattle.spec_script.specs.Reading.{unread, named, after_tenant, admitted, of_tenant, after_job, outside, inside_job, inside, after_counted, after_row, at_end, after_end, going_on};
-ghost use Rattle.mal_script.specs.ReadResult.{Gives, of_jobs};
+ghost use Rattle.spec_script.specs.Reading.{unread, named, has_room, is_job, after_tenant, admitted, of_tenant, after_job, outside, inside_job, inside, after_counted, after_row, at_end, after_end, going_on};
+ghost use Rattle.mal_script.specs.{InPlace.{StaysInBlock, in_job_of}, ReadResult.{Gives, Leaves, of_jobs}};
 
 use crate::asks::asked;
 use crate::fault::LineRefusal;
 use crate::limits::Limits;
 use crate::opened::{OpenJob, SplitLine};
 use crate::script::ScriptJob;
-use crate::taken::{has_job, has_room, is_among};
+use crate::taken::{TakenNames, is_among};
 use mal_base::{Ask, LimitKind, LineFault, Name};
 use mal_dimacs::is_comment;
-use mal_text::first_word;
+use mal_text::{begins_number, first_word};
 use std::alloc::Global;
 use std::marker::Model;
+use std::mem;
 
 /// A script of which some lines were read: the jobs that have ended, the tenants that were named, the last of them, and
-/// the job that has begun. Contracts see the four.
+/// the job that has begun. Contracts see the four. Beside the jobs their names are kept in order.
 #[derive(Drop)]
 pub struct Reader {
     jobs: Vec<ScriptJob>,
+    names: TakenNames,
     tenants: Vec<Name>,
     tenant: Option<Name>,
     opened: Option<OpenJob>,
@@ -29,10 +32,13 @@ pub struct Reader {
 
 impl Model for Reader {
     ghost use Rattle.spec_script.specs.Reading.{Reading};
+    ghost use Rattle.mal_script.specs.TakenNames.{AreTaken};
 
     ghost Value = { Reading };
 
     ghost view = { λ r. record { jobs = r.jobs.items; tenants = r.tenants.items; tenant = r.tenant; opened = r.opened } };
+
+    ghost invariant = { λ r. AreTaken r.jobs.items r.names.places r.names.counts };
 }
 
 impl Reader {
@@ -42,6 +48,7 @@ impl Reader {
     {
         Reader {
             jobs: Vec::new(alloc),
+            names: TakenNames::new(alloc),
             tenants: Vec::new(alloc),
             tenant: None,
             opened: None,
@@ -74,10 +81,24 @@ impl Reader {
         let Some(word) = only_word(words) else {
             return Err(LineRefusal::Fault(LineFault::BadLine));
         };
-        match Name::of(*self.jobs.allocator(), word)? {
+        match Name::of(word) {
             Some(name) => self.named(limits, name),
             None => Err(LineRefusal::Fault(LineFault::BadLine)),
         }
+    }
+
+    /// Whether a tenant has a job of this name.
+    fn has_job(&self, tenant: Name, name: Name) -> bool
+        ensures { result ≡ list_any (is_job tenant name) self.now.jobs }
+    {
+        self.names.has_job(tenant, name)
+    }
+
+    /// Whether one job more of this tenant may begin.
+    fn has_room(&self, limits: Limits, tenant: Name) -> bool
+        ensures { result ≡ has_room limits tenant self.now.jobs }
+    {
+        self.names.jobs_of(tenant) < limits.jobs_of_tenant && self.jobs.len() < limits.jobs
     }
 
     /// After a job of this tenant has begun.
@@ -90,10 +111,10 @@ impl Reader {
     ) -> Result<Reader, LineRefusal>
         ensures { Gives (λ r. r) result (admitted limits tenant name self ask) }
     {
-        if has_job(self.jobs.as_slice(), tenant, name) {
+        if self.has_job(tenant, name) {
             return Err(LineRefusal::Fault(LineFault::Duplicate { tenant, job: name }));
         }
-        if !has_room(self.jobs.as_slice(), limits, tenant) {
+        if !self.has_room(limits, tenant) {
             return Err(LineRefusal::Fault(LineFault::Limit {
                 which: LimitKind::Jobs,
             }));
@@ -120,7 +141,7 @@ impl Reader {
         let Some(tenant) = self.tenant else {
             return Err(LineRefusal::Fault(LineFault::BadLine));
         };
-        let Some(name) = Name::of(*self.jobs.allocator(), name)? else {
+        let Some(name) = Name::of(name) else {
             return Err(LineRefusal::Fault(LineFault::BadLine));
         };
         match asked(priority, demand, slices, behind) {
@@ -163,10 +184,12 @@ impl Reader {
     }
 
     /// After the line that ends this job.
+    #[tactic(auto, using(crate::proofs::Names::few_jobs))]
     fn after_end(mut self, job: OpenJob, words: &[u8]) -> Result<Reader, LineRefusal>
         ensures { Gives (λ r. r) result (after_end (words_of words.now) job self) }
     {
         let job = job.ended(words)?;
+        self.names.note(&job)?;
         self.jobs.reserve(1)?;
         self.jobs.push_reserved(job);
         self.opened = None;
@@ -185,8 +208,10 @@ impl Reader {
             (λ r. r) result (inside_job limits split.entry.first.now (words_of split.entry.others.now) job self) }
     {
         if split.first == b"p".as_slice() {
-            let job = job.after_header(limits, split.line)?;
-            return Ok(self.goes_on(job));
+            return match job.after_header(limits, split.line) {
+                Ok(job) => Ok(self.goes_on(job)),
+                Err(fault) => Err(LineRefusal::Fault(fault)),
+            };
         }
         if split.first == b"q".as_slice() {
             let job = job.after_weight(split.others)?;
@@ -228,7 +253,7 @@ impl Reader {
     }
 
     /// After a line.
-    pub fn after_row(self, limits: Limits, line: &[u8]) -> Result<Reader, LineRefusal>
+    fn after_row(self, limits: Limits, line: &[u8]) -> Result<Reader, LineRefusal>
         ensures { Gives (λ r. r) result (after_row limits (words_of line.now) self) }
     {
         let Some((first, others)) = first_word(line) else {
@@ -243,6 +268,41 @@ impl Reader {
             others,
         };
         self.after_counted(limits, split)
+    }
+
+    /// Whether a line is one of numbers in a block, as its first byte tells. One that is not may be one all the same.
+    #[tactic(auto, using(crate::proofs::InPlace::stays_in_block))]
+    fn is_at_numbers(&self, line: &[u8]) -> bool
+        ensures { result ≡ true → StaysInBlock line.now self.now }
+    {
+        match &self.opened {
+            Some(job) => job.has_block() && begins_number(line),
+            None => false,
+        }
+    }
+
+    /// Reads a line of numbers of a block in place. Without a block nothing is changed.
+    fn take_numbers(&mut self, line: &[u8]) -> Result<(), LineRefusal>
+        ensures { Leaves result self.new (in_job_of (words_of line.now) self.old self.old.opened) }
+    {
+        if let Some(job) = &mut self.opened {
+            return job.take_numbers(line);
+        }
+        Ok(())
+    }
+
+    /// Reads a line: one of numbers in place, since nearly all lines of a long text are such. After a refusal nothing is
+    /// said of what is left.
+    pub fn take_row(&mut self, limits: Limits, line: &[u8]) -> Result<(), LineRefusal>
+        ensures { Leaves result self.new (after_row limits (words_of line.now) self.old) }
+    {
+        if self.is_at_numbers(line) {
+            return self.take_numbers(line);
+        }
+        let unread = Reader::new(*self.jobs.allocator());
+        let reader = mem::replace(self, unread);
+        *self = reader.after_row(limits, line)?;
+        Ok(())
     }
 
     /// The jobs of the script, where no job has begun that has not ended.

@@ -56,8 +56,8 @@ fn read_rows(alloc: Global, text: &[u8], limits: Limits) -> Result<Vec<ScriptJob
     let mut line: u64 = 0;
     while let Some((row, behind)) = first_line(rest) {
         line += 1;
-        match reader.after_row(limits, row) {
-            Ok(after) => reader = after,
+        match reader.take_row(limits, row) {
+            Ok(()) => {}
             Err(refusal) => return Err(refused(line, refusal)),
         }
         rest = behind;

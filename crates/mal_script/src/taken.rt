@@ -1,12 +1,14 @@
 //! Which names and places are taken by the jobs so far.
 
-ghost use Rattle.std.specs.Prelude.{◌≡◌, count_by};
+ghost use Rattle.std.specs.Prelude.{◌≡◌, ◌<◌, ◌^◌, ◌∷◌, ◌++◌, [], List, is_some, OnOk};
 ghost use Rattle.std.specs.{List.{list_any}, Str.{bytes_eq}};
-ghost use Rattle.spec_script.specs.Reading.{has_room, is_job, is_of};
+ghost use Rattle.mal_script.specs.TakenNames.{AreTaken, jobs_at, kept_at};
+ghost use Rattle.spec_script.specs.Script.{ScriptedJob};
 
-use crate::limits::Limits;
 use crate::script::ScriptJob;
 use mal_base::Name;
+use std::alloc::{AllocError, Global};
+use std::collections::BTreeMap;
 
 /// Whether a name is among these.
 pub fn is_among(name: Name, names: &[Name]) -> bool
@@ -15,39 +17,55 @@ pub fn is_among(name: Name, names: &[Name]) -> bool
     names.iter().any(|other| name == *other)
 }
 
-/// Whether a job is of this tenant.
-fn is_of(tenant: Name, job: &ScriptJob) -> bool
-    ensures { result ≡ is_of tenant job.now }
-{
-    tenant == job.tenant()
+/// The names of jobs, each with the place of the job among those of its tenant, and how many jobs each tenant has. So
+/// no job is gone over to find whether its name is taken.
+#[derive(Drop)]
+pub struct TakenNames {
+    places: BTreeMap<(Name, Name), usize>,
+    counts: BTreeMap<Name, usize>,
 }
 
-/// Whether a job is that of this tenant under this name.
-fn is_job(tenant: Name, name: Name, job: &ScriptJob) -> bool
-    ensures { result ≡ is_job tenant name job.now }
-{
-    is_of(tenant, job) && name == job.name()
-}
+impl TakenNames {
+    /// No names. Takes no memory.
+    pub fn new(alloc: Global) -> TakenNames
+        ensures { AreTaken [] result.places result.counts }
+    {
+        TakenNames {
+            places: BTreeMap::new(alloc),
+            counts: BTreeMap::new(alloc),
+        }
+    }
 
-/// Whether a tenant has a job of this name.
-pub fn has_job(jobs: &[ScriptJob], tenant: Name, name: Name) -> bool
-    ensures { result ≡ list_any (is_job tenant name) jobs.now }
-{
-    // Along the list, names of jobs only where the tenant is the same: 64 tenants with 64 jobs each cost some eight
-    // million comparisons.
-    jobs.iter().any(|job| is_job(tenant, name, job))
-}
+    /// Whether a tenant has a job of this name.
+    pub fn has_job(&self, tenant: Name, name: Name) -> bool
+        ensures { result ≡ is_some (kept_at self.now.places tenant name) }
+    {
+        let place = self.places.get(&(tenant, name)).copied();
+        place.is_some()
+    }
 
-/// The number of a tenant's jobs.
-fn jobs_of(jobs: &[ScriptJob], tenant: Name) -> usize
-    ensures { result ≡ count_by (is_of tenant) jobs.now }
-{
-    jobs.iter().filter(|job| is_of(tenant, job)).count()
-}
+    /// The number of a tenant's jobs.
+    pub fn jobs_of(&self, tenant: Name) -> usize
+        ensures { result ≡ jobs_at self.now.counts tenant }
+    {
+        match self.counts.get(&tenant).copied() {
+            None => 0,
+            Some(jobs) => jobs,
+        }
+    }
 
-/// Whether one job more of this tenant may begin behind these.
-pub fn has_room(jobs: &[ScriptJob], limits: Limits, tenant: Name) -> bool
-    ensures { result ≡ has_room limits tenant jobs.now }
-{
-    jobs_of(jobs, tenant) < limits.jobs_of_tenant && jobs.len() < limits.jobs
+    /// Notes the names of a job that comes behind others.
+    pub fn note(&mut self, job: &ScriptJob) -> Result<(), AllocError>
+        requires { jobs_at self.old.counts job.now.tenant < 2 ^ 63 }
+        ensures { OnOk result
+            ((jobs : List ScriptedJob)
+            → AreTaken jobs self.old.places self.old.counts
+            → AreTaken (jobs ++ job.now ∷ []) self.new.places self.new.counts) }
+    {
+        let tenant = job.tenant();
+        let place = self.jobs_of(tenant);
+        self.places.insert((tenant, job.name()), place)?;
+        self.counts.insert(tenant, place + 1)?;
+        Ok(())
+    }
 }

@@ -1,5 +1,5 @@
 -- A script in form is spelled by the text that it is written as.
-use Rattle.std.proofs.Common.{◌≡◌, ℕ, ◌+◌, ◌<◌, ◌≤◌, ◌^◌, Bool, true, false, cond, ◌==◌, ◌&&◌, List, [], ◌∷◌, ◌++◌, map, length, nat_le, Option, Some, None, Result, Ok, Err, refl, sym, ap, ap₂, ◌∙◌, ◌⊎◌, inl, inr, subst, arith, append_assoc, append-nil, length-append}
+use Rattle.std.proofs.Common.{◌≡◌, ℕ, ◌+◌, ◌<◌, ◌≤◌, ◌^◌, Bool, true, false, cond, ◌==◌, ◌&&◌, List, [], ◌∷◌, ◌++◌, map, length, codes, nat_le, Option, Some, None, Result, Ok, Err, refl, sym, ap, ap₂, ◌∙◌, ◌⊎◌, inl, inr, subst, arith, append_assoc, append-nil, length-append}
 use Rattle.std.specs.List.{list_all, list_any}
 use Rattle.std.specs.Str.{bytes_eq}
 use Rattle.std.proofs.lemmas.Bool.{leb-true}
@@ -63,9 +63,13 @@ leads-read lines f is =
     ∙ ap (λ (r : Result Block BlockFault). r >>= ended) is.rest.reads
     ∙ is.rest.ends
 
-block-again : (r : Posted) → is_formula (formula_in r) ≡ true → formula_of (lines_of r).header (lines_of r).body ≡ Ok (formula_in r)
+-- a block whose lines lead to a formula gives it
+pub block-reads : (header : List (List ℕ)) (body : List (List (List ℕ))) (f : Formulated) → Leads ((codes "p" ∷ header) ∷ body) f → formula_of header body ≡ Ok f
 unfolding block_read
-block-again r h = leads-read (formula_rows (formula_in r)) (formula_in r) (written-leads (formula_in r) h)
+block-reads header body f is = leads-read ((codes "p" ∷ header) ∷ body) f is
+
+block-again : (r : Posted) → is_formula (formula_in r) ≡ true → formula_of (lines_of r).header (lines_of r).body ≡ Ok (formula_in r)
+block-again r h = block-reads (lines_of r).header (lines_of r).body (formula_in r) (written-leads (formula_in r) h)
 
 -- ---- a revision
 

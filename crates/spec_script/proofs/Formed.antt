@@ -13,7 +13,6 @@ use Rattle.mal_base.specs.Names.{is_name}
 use Rattle.mal_base.proofs.Sorting.{and-left, and-right, and-both}
 use Rattle.mal_revision.specs.Posted.{Posted, is_posted}
 use Rattle.spec_dimacs.specs.Rows.{is_passed}
-use Rattle.spec_dimacs.specs.Reading.{◌>>=◌, opened, after_rows, ended}
 use Rattle.spec_dimacs.proofs.Led.{led_formula}
 use Rattle.spec_script.specs.Limits.{Limits}
 use Rattle.spec_script.specs.Script.{ScriptedJob, revisions, revisions_at, revisions_in}
@@ -22,12 +21,12 @@ use Rattle.spec_script.specs.Reading.{OpenJob, Reading, unread, named, is_job, h
 use Rattle.spec_script.specs.Formed.{with_name, tenants_of, clauses_of, clause_literals, is_up_to, is_weight, is_step, IsJob, MayFollow, MayAllFollow}
 use Rattle.spec_script.specs.Grammar.{StepLines, Revision, Weight, JobLines, Part, Tenant, Job, Asks, Weighs, SaysUpTo, HasRoomFor, Names, is_inside, formula_of, StepAll, Runs, MakeAll}
 use Rattle.spec_script.specs.Laws.{SpelledIsScript, SpelledAgain}
-use Rattle.spec_script.proofs.Inversions.{bind_ok}
 use Rattle.spec_script.proofs.Words.{admits-room, profile-read}
 use Rattle.spec_script.proofs.Parsing.{not_true}
 use Rattle.spec_script.proofs.AssumedForms.{assumed-formed}
 use Rattle.spec_script.proofs.Named.{AreNamed, tenants-few, named-last, named-more, all-named}
 use Rattle.spec_script.proofs.Again.{written-read}
+use Rattle.spec_script.proofs.Blocks.{block-leads}
 
 -- ---- a revision
 
@@ -38,9 +37,7 @@ all-counted (row ∷ rows) h = (not_true (is_passed row) (and-left _ _ (and-left
 -- the formula of a block is in form
 block-formed : (header : List (List ℕ)) (body : List (List (List ℕ))) (f : Formulated) → list_all is_inside body ≡ true → formula_of header body ≡ Ok f → is_formula f ≡ true
 block-formed header body f inside e =
-    let a = bind_ok (opened (codes "p" ∷ header)) (λ b. after_rows body b >>= ended) f e in
-    let c = bind_ok (after_rows body a.0) ended f a.2 in
-    led_formula ((codes "p" ∷ header) ∷ body) f (refl, all-counted body inside) (record { header = codes "p" ∷ header; others = body; first = a.0; halves = refl; opens = a.1; rest = record { behind = c.0; reads = c.1; ends = c.2 } })
+    led_formula ((codes "p" ∷ header) ∷ body) f (refl, all-counted body inside) (block-leads header body f e)
 
 abbrev posted : Formulated → List ℕ → Posted
 posted f lits = record { variables = f.variables; clauses = f.clauses; assumptions = lits }

@@ -13,6 +13,7 @@ pub mod GeneratedFormed
 pub mod GeneratedScript
 -- what this crate alone cites
 pub mod ExampleLemmas
+mod Blocks
 mod Words
 pub mod Firsts
 mod Parsing

@@ -1,15 +1,17 @@
 -- What holds of every text, in the form in which the law functions state it.
-use Rattle.std.specs.Prelude.{◌≡◌, ℕ, ◌<◌, ◌↔◌, List, [], ◌∷◌, length, take, Ok, Err}
+use Rattle.std.specs.Prelude.{◌≡◌, ℕ, ◌<◌, ◌↔◌, List, [], ◌∷◌, length, take, codes, Ok, Err}
 use Rattle.mal_base.specs.Asks.{Terms, Weighed}
 use Rattle.mal_base.specs.Formulas.{Formulated}
 use Rattle.mal_base.specs.declared.line_fault.LineFault.{LineFault}
 use Rattle.spec_text.specs.Inputs.{lines_of}
 use Rattle.spec_text.specs.Numbers.{number_in}
+use Rattle.spec_dimacs.specs.Grammar as block
+use Rattle.spec_dimacs.specs.Rows.{counted_rows}
 use Rattle.spec_script.specs.Limits.{Limits}
 use Rattle.spec_script.specs.Script.{Scripted, spelling}
 use Rattle.spec_script.specs.Assumptions.{assumptions_in}
 use Rattle.spec_script.specs.Reading.{OpenJob, Reading, admitted, after_tenant, asked, begun, going_on, profile_in, read_text, revised, weighed, with_revision}
-use Rattle.spec_script.specs.Grammar.{Admits, Asks, Assumes, HasRoomFor, Names, Spells, Weighs}
+use Rattle.spec_script.specs.Grammar.{Admits, Asks, Assumes, HasRoomFor, Names, Spells, Weighs, formula_of}
 use Rattle.spec_script.specs.Within.{IsWithin}
 use Rattle.spec_script.specs.Formed.{IsScript}
 
@@ -17,6 +19,12 @@ use Rattle.spec_script.specs.Formed.{IsScript}
 -- one
 abbrev pub SpelledIsRead : Type 0
 SpelledIsRead = (limits : Limits) (text : List ℕ) (s : Scripted) → Spells limits text s ↔ (read_text limits text ≡ Ok s)
+
+-- the lines of a block give a formula exactly where a text of which these are the lines that count spells it
+abbrev pub BlockIsSpelled : Type 0
+BlockIsSpelled =
+    (text : List ℕ) (header : List (List ℕ)) (body : List (List (List ℕ))) (formula : Formulated) → counted_rows text ≡ (codes "p" ∷ header) ∷ body
+    → block.Spells text formula ↔ (formula_of header body ≡ Ok formula)
 
 -- reading words gives just the ask that they say
 abbrev pub AskIsRead : Type 0

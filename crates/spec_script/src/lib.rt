@@ -6,7 +6,7 @@
 mod generated;
 mod step;
 
-ghost use Rattle.spec_script.specs.{Differ.{HaveOtherTexts, ScriptsDiffer}, Examples.{HasExamples, ReadingExamples, FaultExamples, LimitExamples}, WordExamples.{WordExamples}, Laws.{SpelledIsRead, SpelledIsWithin, WrittenIsSpelled, WrittenIsRead, SpelledIsScript, SpelledAgain, AskIsRead, AssumptionsAreRead, FaultIsFirst, JobIsAdmitted, RevisionIsRead, TenantIsRead, WeightIsRead}};
+ghost use Rattle.spec_script.specs.{Differ.{HaveOtherTexts, ScriptsDiffer}, Examples.{HasExamples, ReadingExamples, FaultExamples, LimitExamples}, WordExamples.{WordExamples}, Laws.{SpelledIsRead, SpelledIsWithin, WrittenIsSpelled, WrittenIsRead, SpelledIsScript, SpelledAgain, AskIsRead, AssumptionsAreRead, BlockIsSpelled, FaultIsFirst, JobIsAdmitted, RevisionIsRead, TenantIsRead, WeightIsRead}};
 
 pub use generated::{generated_is_script, generator_examples};
 pub use step::Step;
@@ -49,6 +49,12 @@ pub fn words_are_read()
     ensures job { JobIsAdmitted }
     ensures assumptions { AssumptionsAreRead }
     ensures revision { RevisionIsRead }
+{}
+
+/// The lines of a block give a formula exactly where a text of which these are the lines that count spells it, by the
+/// grammar of formulas.
+pub fn block_is_spelled()
+    ensures { BlockIsSpelled }
 {}
 
 /// Where the first fault of a text is on a line before the last, each text that begins with the same lines, up to this
