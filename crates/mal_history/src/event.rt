@@ -10,7 +10,7 @@ use std::marker::Model;
 use std::sync::Arc;
 
 /// The volume of one job in a balancing: how many of its solvers may run at a time, 0 to 64.
-#[derive(Clone, Copy, Debug, PartialEq, Eq)]
+#[derive(Clone, Copy, PartialEq, Eq)]
 pub struct Share {
     pub tenant: Name,
     pub job: Name,
@@ -28,7 +28,7 @@ impl Share {
 
 /// The volumes of a balancing, of each live job by opening. A volume may be shared with other balancings. Contracts see
 /// the list.
-#[derive(Debug, Drop)]
+#[derive(Drop)]
 pub struct Shares {
     // Shared behind an Arc: of 4,096 jobs answered one by one there are as many balancings with eight million volumes,
     // nearly all 0.
@@ -91,7 +91,7 @@ impl Shares {
 }
 
 /// A node of a job's tree and a worker: what the start of a node and its end tell.
-#[derive(Clone, Copy, Debug, PartialEq, Eq)]
+#[derive(Clone, Copy)]
 pub struct Assignment {
     pub tenant: Name,
     pub job: Name,
@@ -114,7 +114,7 @@ impl Assignment {
 }
 
 /// An event of a hall. Revisions of a job are numbered from 1, nodes of its tree from 0 to 63, workers from 1.
-#[derive(Debug, Drop)]
+#[derive(Drop)]
 pub enum Event {
     Open {
         tenant: Name,

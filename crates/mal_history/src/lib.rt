@@ -16,7 +16,9 @@ mod writing;
 pub use event::{Event, Share, Shares};
 pub use fault::HistoryFault;
 pub use history::History;
-pub use laws::{histories_differ, reading_examples, spelled_is_read, written_is_read};
+pub use laws::{
+    fault_is_first, histories_differ, reading_examples, spelled_is_read, written_is_read,
+};
 pub use owned::own;
 pub use post::{PostKind, PostLine};
 pub use reading::read;

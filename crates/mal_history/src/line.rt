@@ -14,7 +14,7 @@ use std::alloc::{AllocError, Global};
 use std::sync::Arc;
 
 /// What the first line of a history says: the version of the format, 1 or 2, and the number of workers, from 1 to 64.
-#[derive(Clone, Copy, Debug)]
+#[derive(Clone, Copy)]
 pub struct Header {
     pub version: u32,
     pub workers: u32,
@@ -100,18 +100,18 @@ fn read_event(
     if first == b"b".as_slice() {
         read_balance(alloc, line, last_shares(events))
     } else {
-        read_named(alloc, first, line, header)
+        read_named(first, line, header)
     }
 }
 
 /// The event of this kind, of a line that begins with the names of a tenant and of a job.
-fn read_named(alloc: Global, kind: &[u8], line: &[u8], header: Header) -> Result<Event, EventFault>
+fn read_named(kind: &[u8], line: &[u8], header: Header) -> Result<Event, EventFault>
     ensures { Gives result (named_event header.version header.workers kind.now (words_of line.now)) }
 {
     let Some((tenant, job, line)) = two_words(line) else {
         return Err(EventFault::BadLine);
     };
-    let (tenant, job) = names_in(alloc, tenant, job)?;
+    let (tenant, job) = names_in(tenant, job)?;
     read_kind(kind, tenant, job, line, header)
 }
 
@@ -310,7 +310,7 @@ fn read_balance(alloc: Global, line: &[u8], earlier: &[Arc<Share>]) -> Result<Ev
         let Some((job, volume, behind)) = two_words(behind) else {
             return Err(EventFault::BadLine);
         };
-        let (tenant, job) = names_in(alloc, tenant, job)?;
+        let (tenant, job) = names_in(tenant, job)?;
         match in_range(volume, 0, 64) {
             Some(volume) => {
                 let share = Share {
@@ -377,13 +377,13 @@ fn two_words(line: &[u8]) -> Option<(&[u8], &[u8], &[u8])>
 }
 
 /// The names of a tenant and of a job, where both words are names.
-fn names_in(alloc: Global, tenant: &[u8], job: &[u8]) -> Result<(Name, Name), EventFault>
+fn names_in(tenant: &[u8], job: &[u8]) -> Result<(Name, Name), EventFault>
     ensures { AreNamed result tenant.now job.now }
 {
-    let Some(tenant) = Name::of(alloc, tenant)? else {
+    let Some(tenant) = Name::of(tenant) else {
         return Err(EventFault::BadLine);
     };
-    let Some(job) = Name::of(alloc, job)? else {
+    let Some(job) = Name::of(job) else {
         return Err(EventFault::BadLine);
     };
     Ok((tenant, job))

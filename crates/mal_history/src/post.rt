@@ -7,7 +7,7 @@ use crate::event::Event;
 use mal_base::{Ask, Name, Weight};
 
 /// What a tenant posts of a job, as it is written down: without its contents.
-#[derive(Clone, Copy, Debug, PartialEq, Eq)]
+#[derive(Clone, Copy, PartialEq, Eq)]
 pub struct PostLine {
     pub tenant: Name,
     pub job: Name,
@@ -15,7 +15,7 @@ pub struct PostLine {
 }
 
 /// What is posted of a job: it is opened, its revision of a number is posted, its weight is changed, or it is closed.
-#[derive(Clone, Copy, Debug, PartialEq, Eq)]
+#[derive(Clone, Copy, PartialEq, Eq)]
 pub enum PostKind {
     Opening(Ask),
     Revision(u32),

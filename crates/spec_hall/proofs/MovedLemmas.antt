@@ -27,7 +27,7 @@ volume-joins v pre es none = ap (λ (w : ℕ). if v == w then pre ++ es else (pr
     by_test false = append_assoc pre es (Volume v ∷ [])
 
 -- an event that is no arrival of the job joins what is behind them
-own-behind : (j : Key) (pre es : List Own) (e : Event) → volume_after pre ≡ 0 → arrives j e ≡ false → own_step j (pre ++ es) e ≡ pre ++ own_step j es e
+pub own-behind : (j : Key) (pre es : List Own) (e : Event) → volume_after pre ≡ 0 → arrives j e ≡ false → own_step j (pre ++ es) e ≡ pre ++ own_step j es e
 own-behind j pre es (Open k ask) none free = adds-behind (is_key j k) pre es (Opened ask)
 own-behind j pre es (Revise k number r) none free = adds-behind (is_key j k) pre es (Revised r)
 own-behind j pre es (Reask k weight) none free = adds-behind (is_key j k) pre es (Reasked weight)

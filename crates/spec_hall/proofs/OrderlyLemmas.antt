@@ -130,7 +130,8 @@ balance-away w past shares j may absent =
     let unlisted : list_any (is_key j) (map key_of shares) ≡ false = ap (list_any (is_key j)) may.keys ∙ lives-absent past j (keys_of past) absent in
     volume_in-absent j shares unlisted
 
-exchange-there : (w : ℕ) (past : List Event) (k : Key) → Allowed w past (Exchange k) → was_opened past k ≡ true
+-- an exchange is of a job that is there
+pub exchange-there : (w : ℕ) (past : List Event) (k : Key) → Allowed w past (Exchange k) → was_opened past k ≡ true
 exchange-there w past k may =
     let opened : was_opened past may.0.key ≡ true = titled-opened past k (keys_of past) (λ (t : KeyedJob). is_exchange_due t.state) may.0 may.1.first in
     subst (λ (x : Key). was_opened past x ≡ true) may.1.key opened

@@ -3,9 +3,10 @@ use Rattle.std.proofs.Common.{◌≡◌, ℕ, Bool, true, false, cond, List, [],
 use Rattle.std.specs.List.{list_any}
 use Rattle.std.proofs.lemmas.Bool.{or_parts}
 use Rattle.spec_hall.specs.Events.{Event, Open, Revise, Reask, Close, Balance, Start, Finish, Exchange, Leave, Arrive, bare, moves}
+use Rattle.spec_hall.proofs.FormedLemmas.{legal-is_formed}
 use Rattle.spec_hall.proofs.KeyLemmas.{is_text-Decides}
 use Rattle.mal_base.specs.declared.replay_fault.ReplayFault.TheVariants.{OutOfMemory}
-use Rattle.spec_run.specs.ReplayLaws.{RunIsReplied, RunIsReplayed}
+use Rattle.spec_run.specs.ReplayLaws.{RunIsFormed, RunIsReplied, RunIsReplayed}
 use Rattle.spec_run.specs.Replayed.{IsReplay}
 use Rattle.spec_run.specs.Accounted.{event_by}
 use Rattle.spec_run.proofs.PostLemmas.{AreScripted, posts-scripted}
@@ -66,3 +67,7 @@ run-is_replayed workers s history log out line_of answer formed run is fed =
   where
     ok-fed : Ok out ≡ Err OutOfMemory → ⊥
     ok-fed e = absurd (cc)
+
+-- what a run writes down is in form
+pub run-is_formed : RunIsFormed
+run-is_formed w s history log out some bound run few = legal-is_formed w history some bound run.legal run.complete.stay few

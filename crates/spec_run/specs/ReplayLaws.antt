@@ -1,5 +1,7 @@
-use Rattle.std.specs.Prelude.{◌≡◌, ◌≢◌, ℕ, List, map, Result, Ok, Err}
+use Rattle.std.specs.Prelude.{◌≡◌, ◌≢◌, ℕ, ◌≤◌, List, length, map, Result, Ok, Err}
 use Rattle.mal_history.specs.declared.event.Event as written
+use Rattle.mal_history.specs.Formed.{IsHistory}
+use Rattle.mal_history.specs.Reading.{most_events}
 use Rattle.spec_hall.specs.Events.{Event, bare}
 use Rattle.mal_base.specs.declared.replay_fault.ReplayFault.{ReplayFault}
 use Rattle.mal_base.specs.declared.replay_fault.ReplayFault.TheVariants.{OutOfMemory}
@@ -21,6 +23,12 @@ abbrev pub RunIsReplied : Type 0
 RunIsReplied =
     (workers : ℕ) (s : Scripted) (history : List Event) (log out : List ℕ)
     → IsScript served s → IsRun workers s history log out → IsReplied workers s (map bare history) out
+
+-- and what a run of 1 to 64 workers writes down is in form, where it has no more events than a text may have
+abbrev pub RunIsFormed : Type 0
+RunIsFormed =
+    (workers : ℕ) (s : Scripted) (history : List Event) (log out : List ℕ)
+    → 1 ≤ workers → workers ≤ 64 → IsRun workers s history log out → length history ≤ most_events → IsHistory workers (map bare history)
 
 -- so no replay of it answers anything else, unless memory is wanting
 abbrev pub RunIsReplayed : Type 0

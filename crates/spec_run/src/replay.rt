@@ -1,6 +1,6 @@
 //! Laws about a history that is replayed for a script, as the contracts of functions without a body.
 
-ghost use Rattle.spec_run.specs.{ReplayExamples.{HasEvents}, ReplayLaws.{ReplayIsDecided, RunIsReplayed, RunIsReplied}};
+ghost use Rattle.spec_run.specs.{ReplayExamples.{HasEvents}, ReplayLaws.{ReplayIsDecided, RunIsFormed, RunIsReplayed, RunIsReplied}};
 
 /// There is one answer to a replay at most, where memory was not wanting.
 pub fn replay_is_decided()
@@ -8,9 +8,10 @@ pub fn replay_is_decided()
 {}
 
 /// A run's own history replays to its output: it is legal and complete for the script, and its replies are the output.
-/// So a replay of it answers nothing else, where memory was not wanting.
+/// It is in form where it has at most 2^24 events. So a replay of it answers nothing else, where memory was not wanting.
 pub fn run_is_replayed()
     ensures replied { RunIsReplied }
+    ensures formed { RunIsFormed }
     ensures replayed { RunIsReplayed }
 {}
 
