@@ -10,3 +10,4 @@ mod FieldLemmas
 mod BeginsLemmas
 mod AgainLemmas
 mod CanonicalLemmas
+mod FirstLemmas

@@ -14,7 +14,7 @@ mod writing;
 
 pub use fault::ThawFault;
 pub use image::Image;
-pub use laws::{fresh_bytes, read_is_spelled, sound_has_image, spelled_is_read};
+pub use laws::{fault_is_first, fresh_bytes, read_is_spelled, sound_has_image, spelled_is_read};
 pub use parts::Parts;
 pub use thawing::{thaw, thaw_known};
 pub use writing::freeze;

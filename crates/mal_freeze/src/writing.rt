@@ -7,7 +7,7 @@ ghost use Rattle.mal_freeze.specs.{Parted.{node_of}, Reading.{image_in}, Spellin
 use crate::image::Image;
 use crate::parts::Parts;
 use crate::reading::{MAGIC_1, MAGIC_2};
-use mal_base::{ClauseId, Lit, NumberedClause, TrailEntry, Var, Verdict};
+use mal_base::{ClauseId, Lit, NumberedClause, TrailEntry, Var, Verdict, grown};
 use std::alloc::{AllocError, Global};
 
 /// The one spelling of an image, which `thaw` reads again. More clauses than 32 bits count are want of memory too.
@@ -63,9 +63,7 @@ fn put_count(out: &mut Vec<u8>, count: usize) -> Result<(), AllocError>
     ensures spelled { OnOk result (out.new.items ≡ out.old.items ++ spelled w32 count) }
     ensures fits { OnOk result (count < 2 ^ 32) }
 {
-    if count > u32::MAX as usize {
-        return Err(AllocError);
-    }
+    let count = grown(count, 0, u32::MAX as usize)?;
     put_u32(out, count as u32)
 }
 
