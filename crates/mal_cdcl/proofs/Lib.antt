@@ -15,3 +15,4 @@ mod SliceLemmas
 mod LineLemmas
 mod SourceLemmas
 mod PastLemmas
+mod RestartLemmas

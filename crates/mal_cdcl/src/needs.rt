@@ -7,7 +7,7 @@ ghost use Rattle.spec_search.specs.Slice.{most_numbers};
 ghost use Rattle.mal_cdcl.specs.{ImportSizes.{lits_in, import_clauses, import_literals}, Ready.{posted, greatest, clauses_in, literals_in, most_assumptions}};
 
 use crate::import_filter::NewClauses;
-use mal_base::{Lit, NumberedClause};
+use mal_base::{Lit, NumberedClause, grown};
 use mal_order::Order;
 use mal_revision::Revision;
 use mal_trail::{Listed, Trail};
@@ -136,8 +136,5 @@ fn count_lits(entries: &[NumberedClause]) -> Result<usize, AllocError>
 pub fn added(one: usize, more: usize) -> Result<usize, AllocError>
     ensures { IfOk result (λ n. n ≡ one + more) }
 {
-    match one.checked_add(more) {
-        None => Err(AllocError),
-        Some(sum) => Ok(sum),
-    }
+    grown(one, more, usize::MAX)
 }

@@ -8,6 +8,11 @@ pub fn is_due(conflicts_since_restart: u32, restart_number: u32) -> bool
     requires { 1 ≤ restart_number }
     ensures { result ≡ nat_le (64 * luby restart_number) conflicts_since_restart }
 {
-    // Compared with the conflicts divided by 64, so no product can pass the machine word.
-    mal_seq::luby(u64::from(restart_number)) <= u64::from(conflicts_since_restart) / 64
+    // Compared with the conflicts divided by 64, so no product can pass the machine word. Each number of Luby's is 1 or
+    // more, so none is found before there are 64 conflicts.
+    let units = u64::from(conflicts_since_restart) / 64;
+    if units == 0 {
+        return false;
+    }
+    mal_seq::luby(u64::from(restart_number)) <= units
 }

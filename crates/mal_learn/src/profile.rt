@@ -4,7 +4,7 @@ ghost use Rattle.std.specs.Prelude.{◌≡◌, ◌==◌, reverse};
 ghost use Rattle.spec_learn.specs.Learning.{analysed_in};
 ghost use Rattle.mal_learn.specs.Shown.{HasRoom, HasLeft};
 
-use crate::scratch::{Scratch, analyse, shorten};
+use crate::scratch::{Scratch, analyse, analyse_shorter};
 use mal_base::{ClauseId, ClauseView, TrailView};
 
 /// Analyses a conflict as the solvers of a profile do: leaves in a fitted scratch the clause of the first unique
@@ -21,9 +21,10 @@ pub fn analyse_in<T: TrailView, C: ClauseView>(
     ensures { HasLeft
         (analysed_in profile (C.clauses clauses.now) (reverse (T.entries trail.now)) conflict) scratch.old scratch.new }
 {
-    analyse(trail, clauses, conflict, scratch);
     if is_shortening(profile) {
-        shorten(trail, clauses, scratch);
+        analyse_shorter(trail, clauses, conflict, scratch);
+    } else {
+        analyse(trail, clauses, conflict, scratch);
     }
 }
 

@@ -175,8 +175,24 @@ pub fn shorten<T: TrailView, C: ClauseView>(trail: &T, clauses: &C, scratch: &mu
         (shortened (C.clauses clauses.now) (reverse (T.entries trail.now))
         (last_of scratch.old.hints)) scratch.old scratch.new }
 {
-    // Walks again: it reads the conflict off the last hint, and asks for no more of the scratch than that hint.
+    // It asks for no more of the scratch than the conflict, and walks again.
     let conflict = scratch.work.last_hint();
+    analyse_shorter(trail, clauses, conflict, scratch);
+}
+
+/// Analyses a conflict, and leaves in a fitted scratch the shorter clause with its hints in trail order and the level to
+/// jump to: one walk finds it, since what the first unique implication point leaves out is left out too. Takes no
+/// memory. The time is linear in the trail and twice the literals of the reasons looked at.
+pub fn analyse_shorter<T: TrailView, C: ClauseView>(
+    trail: &T,
+    clauses: &C,
+    conflict: ClauseId,
+    scratch: &mut Scratch,
+)
+    requires { HasRoom 1 scratch.old.room (T.entries trail.now) (C.clauses clauses.now) }
+    ensures { HasLeft
+        (shortened (C.clauses clauses.now) (reverse (T.entries trail.now)) conflict) scratch.old scratch.new }
+{
     let level = current_level(trail);
     scratch.work.begin(trail, clauses, conflict, level);
     scratch.base.clear();

@@ -6,7 +6,7 @@ ghost use Rattle.spec_node.specs.Adding.{forgetting};
 ghost use Rattle.mal_store.specs.{Arena.{no_clause, is_left, listed, lits_in, clause_in, IsBody, AreHeaders, clauses_in, IsFrom, end_of, AreLaid, IsFit, AreFit, len_of, listed_count}, declared.clause_arena.Header.{Header}};
 
 use crate::ids::is_among;
-use mal_base::{ClauseId, Lit};
+use mal_base::{ClauseId, Lit, grown};
 use std::alloc::{AllocError, Global};
 use std::marker::Model;
 
@@ -78,12 +78,8 @@ impl ClauseArena {
         ensures more_clauses { self.old.clause_room ≤ self.new.clause_room }
         ensures more_literals { self.old.literal_room ≤ self.new.literal_room }
     {
-        if MOST - self.headers.len().min(MOST) < clauses {
-            return Err(AllocError);
-        }
-        if MOST - self.literals.len().min(MOST) < literals {
-            return Err(AllocError);
-        }
+        grown(self.headers.len(), clauses, MOST)?;
+        grown(self.literals.len(), literals, MOST)?;
         self.headers.reserve(clauses)?;
         self.literals.reserve(literals)?;
         Ok(())

@@ -10,7 +10,7 @@ use crate::clause_arena::ClauseArena;
 use crate::entry::{Entry, Held};
 use crate::ids;
 use crate::index::Index;
-use mal_base::{ClauseId, ClauseView, Lit};
+use mal_base::{ClauseId, ClauseView, Lit, grown};
 use std::alloc::{AllocError, Global};
 use std::marker::Model;
 
@@ -67,12 +67,10 @@ impl Store {
     {
         // Of no clause more than three literals stand elsewhere than in the list of literals; there is room in it for
         // these too, so that what any clause leaves behind when it goes is room for any other.
-        let Some(beside) = self.index.len().checked_mul(3) else {
-            return Err(AllocError);
-        };
-        let Some(total) = literals.checked_add(beside) else {
-            return Err(AllocError);
-        };
+        let held = self.index.len();
+        let twice = grown(held, held, usize::MAX)?;
+        let beside = grown(twice, held, usize::MAX)?;
+        let total = grown(literals, beside, usize::MAX)?;
         self.index.reserve(clauses)?;
         self.short.reserve(clauses)?;
         self.long.reserve(clauses, total)

@@ -2,8 +2,10 @@
 pub mod TrailLemmas
 pub mod CutLemmas
 pub mod FoundLemmas
+pub mod FlipLemmas
 -- what this crate alone cites
 mod LevelLemmas
 mod PlaceLemmas
+mod RoomLemmas
 mod ValueLemmas
 mod SignLemmas

@@ -1,17 +1,17 @@
-use Rattle.std.proofs.Common.{◌≡◌, ℕ, zero, suc, ◌+◌, ◌-◌, ◌/◌, ◌%◌, ◌<◌, ◌≤◌, Bool, true, false, not, nat_eq, nat_lt, List, [], ◌∷◌, ◌++◌, length, take, replicate, get_or, set, Some, None, cond, ◌||◌, ap, refl, sym, ◌∙◌, arith, ⊎_elim, ◌⊎◌, inl, inr, ◌≢◌}
+use Rattle.std.proofs.Common.{◌≡◌, ℕ, zero, suc, ◌+◌, ◌-◌, ◌/◌, ◌%◌, ◌<◌, ◌≤◌, Bool, true, false, not, nat_eq, nat_lt, List, [], ◌∷◌, ◌++◌, length, take, drop, replicate, get_or, set, Some, None, cond, ◌||◌, ap, refl, sym, ◌∙◌, arith, ⊎_elim, ◌⊎◌, inl, inr, ◌≢◌}
 use Rattle.std.specs.List.{list_any, find, IsDistinct}
 use Rattle.std.specs.Option.{option_map}
 use Rattle.std.specs.Prelude.{eqb}
-use Rattle.std.proofs.lemmas.Bool.{false≢true, false_from_ne_true, or_cases, or_parts, cases_lt, cases_eq, ltb-true, lt-ltb, eqb-true, eq-eqb}
+use Rattle.std.proofs.lemmas.Bool.{false≢true, false_from_ne_true, or_cases, or_parts, cases_lt, cases_eq, ltb-true, lt-ltb, eqb-true, eqb-false, eq-eqb}
 use Rattle.std.proofs.lemmas.Bool.Decides.{nat_tests}
 use Rattle.std.proofs.lemmas.Map.Keys.{apart_from_distinct}
-use Rattle.std.proofs.lemmas.List.{length-map, get_or-take, length-take-le, get_or_append_left, get_or_push, get_or-set_same, get_or-set_other, length_push}
+use Rattle.std.proofs.lemmas.List.{length-map, get_or-take, length-take-le, get_or_append_left, get_or_push, get_or-set_same, get_or-set_other, length_push, length-set, length-drop, get_or-drop}
 use Rattle.std.proofs.lemmas.List.Folds.{list_any_at}
 use Rattle.mal_base.specs.Literals.{var_of, has_plus, negated, literal}
 use Rattle.mal_base.specs.Trails.{value_on}
 use Rattle.mal_base.specs.declared.trail_entry.TrailEntry.{TrailEntry}
 use Rattle.spec_node.specs.Value.{is_true, is_false, has_value, vars_of}
-use Rattle.mal_trail.specs.Trailed.{nowhere, false_place, Stand}
+use Rattle.mal_trail.specs.Trailed.{nowhere, false_place, cleared, Stand}
 
 parity : (a : ℕ) → (a % 2 ≡ 0) ⊎ (a % 2 ≡ 1)
 parity a = ⊎_elim inl (λ n. inr (omega (arith, n))) (cases_eq (a % 2) 0)
@@ -118,35 +118,78 @@ stand-push places entries e s free room = record {
     other : (l : ℕ) (d : TrailEntry) → (l ≡ negated e.lit → ⊥) → (false_place (set places (negated e.lit) (length entries)) l ≡ nowhere) ⊎ ((false_place (set places (negated e.lit) (length entries)) l < length (entries ++ e ∷ [])) × ((get_or (entries ++ e ∷ []) (false_place (set places (negated e.lit) (length entries)) l) d).lit ≡ negated l))
     other l d q = rw (get_or-set_other places (negated e.lit) l (length entries) nowhere q) (⊎_elim (λ n. inl n) (λ t. inr (omega (arith, t.0, length_push entries e), rw (get_or_append_left entries (e ∷ []) d (false_place places l) t.0) t.1)) (s.there l d))
 
--- the last entry leaves its place
-pub stand-pop : (places : List ℕ) (n : ℕ) (entries : List TrailEntry) (e : TrailEntry) → Stand places entries → length entries ≡ n + 1 → e ≡ get_or entries n e → negated e.lit < length places → Stand (set places (negated e.lit) nowhere) (take n entries)
-stand-pop places n entries e s long is room = record {
-  placed = λ k d h. kept k d (let l = length-take-le n entries (omega arith) in omega arith);
-  there = λ l d. ⊎_elim (same l d) (other l d) (cases_eq l (negated e.lit));
+-- as many places as before
+pub cleared-length : (es : List TrailEntry) (places : List ℕ) → length (cleared es places) ≡ length places
+cleared-length [] places = refl
+cleared-length (e ∷ es) places = cleared-length es (set places (negated e.lit) nowhere) ∙ length-set places (negated e.lit) nowhere
+
+cleared-other : (es : List TrailEntry) (places : List ℕ) (l : ℕ) → list_any (λ (e : TrailEntry). nat_eq l (negated e.lit)) es ≡ false → false_place (cleared es places) l ≡ false_place places l
+cleared-other [] places l h = refl
+cleared-other (e ∷ es) places l h =
+    let apart = or_parts (nat_eq l (negated e.lit)) (list_any (λ (x : TrailEntry). nat_eq l (negated x.lit)) es) h in
+    cleared-other es (set places (negated e.lit) nowhere) l apart.1 ∙ get_or-set_other places (negated e.lit) l nowhere nowhere (eqb-false l (negated e.lit) apart.0)
+
+cleared-none : (es : List TrailEntry) (places : List ℕ) (l : ℕ) → l < length places → false_place places l ≡ nowhere → false_place (cleared es places) l ≡ nowhere
+cleared-none [] places l b h = h
+cleared-none (e ∷ es) places l b h = cleared-none es (set places (negated e.lit) nowhere) l (let k = length-set places (negated e.lit) nowhere in omega arith) (by_case (cases_eq l (negated e.lit)))
+  where
+    by_case : (l ≡ negated e.lit) ⊎ (l ≡ negated e.lit → ⊥) → false_place (set places (negated e.lit) nowhere) l ≡ nowhere
+    by_case (inl q) = rw q (get_or-set_same places (negated e.lit) nowhere nowhere (omega (arith, b, q)))
+    by_case (inr q) = get_or-set_other places (negated e.lit) l nowhere nowhere q ∙ h
+
+cleared-here : (es : List TrailEntry) (places : List ℕ) (l : ℕ) → l < length places → list_any (λ (e : TrailEntry). nat_eq l (negated e.lit)) es ≡ true → false_place (cleared es places) l ≡ nowhere
+cleared-here [] places l b h = absurd (false≢true h)
+cleared-here (e ∷ es) places l b h = by_here (nat_eq l (negated e.lit)) refl (λ m. cleared-here es (set places (negated e.lit) nowhere) l longer m) h
+  where
+    longer : l < length (set places (negated e.lit) nowhere)
+    longer = let k = length-set places (negated e.lit) nowhere in omega arith
+
+    by_here : (x : Bool) → nat_eq l (negated e.lit) ≡ x → (list_any (λ (y : TrailEntry). nat_eq l (negated y.lit)) es ≡ true → false_place (cleared es (set places (negated e.lit) nowhere)) l ≡ nowhere) → (x || list_any (λ (y : TrailEntry). nat_eq l (negated y.lit)) es) ≡ true → false_place (cleared es (set places (negated e.lit) nowhere)) l ≡ nowhere
+    by_here true q rest m =
+        let same : l ≡ negated e.lit = eqb-true l (negated e.lit) q in
+        cleared-none es (set places (negated e.lit) nowhere) l longer (rw same (get_or-set_same places (negated e.lit) nowhere nowhere (omega (arith, b, same))))
+    by_here false q rest m = rest m
+
+-- the first entries stand where the others are taken away
+pub stand-cut : (places : List ℕ) (n : ℕ) (entries : List TrailEntry) → Stand places entries → n ≤ length entries → ((k : ℕ) (d : TrailEntry) → k < length entries → negated (get_or entries k d).lit < length places) → Stand (cleared (drop n entries) places) (take n entries)
+stand-cut places n entries s short room = record {
+  placed = λ k d h. stays k d (omega (arith, h, length-take-le n entries short));
+  there = λ l d. by_test l d (list_any (λ (e : TrailEntry). nat_eq l (negated e.lit)) (drop n entries)) refl;
 }
   where
-    last : false_place places (negated e.lit) ≡ n
-    last = rw (← is) at (s.placed n e (omega arith))
+    none : TrailEntry
+    none = record { lit = 2; reason = None; level = 0 }
 
-    kept : (k : ℕ) (d : TrailEntry) → k < n → false_place (set places (negated e.lit) nowhere) (negated (get_or (take n entries) k d).lit) ≡ k
-    kept k d b =
-        let here : false_place places (negated (get_or entries k d).lit) ≡ k = s.placed k d (omega arith) in
-        let apart : negated (get_or entries k d).lit ≢ negated e.lit = (λ q. let p : false_place places (negated e.lit) ≡ k = rw q at here in omega (arith, p, last)) in
-        rw (get_or-take n entries k d b, get_or-set_other places (negated e.lit) (negated (get_or entries k d).lit) nowhere nowhere apart) here
+    behind : (l k : ℕ) → false_place places l ≡ k → k < n → list_any (λ (e : TrailEntry). nat_eq l (negated e.lit)) (drop n entries) ≡ false
+    behind l k p b = false_from_ne_true (list_any (λ (e : TrailEntry). nat_eq l (negated e.lit)) (drop n entries)) (λ t.
+        let w = witness (λ (e : TrailEntry). nat_eq l (negated e.lit)) (drop n entries) none t in
+        let inside : n + w.at < length entries = omega (arith, w.within, length-drop n entries) in
+        let is : l ≡ negated (get_or entries (n + w.at) none).lit = eqb-true _ _ (rw (get_or-drop n entries w.at none) at w.passes) in
+        let at : false_place places l ≡ n + w.at = ap (false_place places) is ∙ s.placed (n + w.at) none inside in
+        omega (arith, p, b, at))
 
-    same : (l : ℕ) (d : TrailEntry) → l ≡ negated e.lit → (false_place (set places (negated e.lit) nowhere) l ≡ nowhere) ⊎ ((false_place (set places (negated e.lit) nowhere) l < length (take n entries)) × ((get_or (take n entries) (false_place (set places (negated e.lit) nowhere) l) d).lit ≡ negated l))
-    same l d q = inl (rw q (get_or-set_same places (negated e.lit) nowhere nowhere room))
+    stays : (k : ℕ) (d : TrailEntry) → k < n → false_place (cleared (drop n entries) places) (negated (get_or (take n entries) k d).lit) ≡ k
+    stays k d b =
+        let here : false_place places (negated (get_or entries k d).lit) ≡ k = s.placed k d (omega (arith, b, short)) in
+        rw (get_or-take n entries k d b) (cleared-other (drop n entries) places (negated (get_or entries k d).lit) (behind (negated (get_or entries k d).lit) k here b) ∙ here)
 
-    before : (l : ℕ) (d : TrailEntry) → (l ≡ negated e.lit → ⊥) → (false_place places l < length entries) × ((get_or entries (false_place places l) d).lit ≡ negated l) → false_place places l < n
-    before l d q t = ⊎_elim (λ x. let at_end : get_or entries n d ≡ e = get_or_either entries n d e (omega arith) ∙ sym is in absurd (q (sym (negated-back l) ∙ ap negated (sym t.1 ∙ ap (λ (y : TrailEntry). y.lit) (ap (λ (i : ℕ). get_or entries i d) x ∙ at_end))))) (λ x. omega (arith, t.0, x)) (cases_eq (false_place places l) n)
-      where
-        get_or_either : (es : List TrailEntry) (k : ℕ) (a b : TrailEntry) → k < length es → get_or es k a ≡ get_or es k b
-        get_or_either [] k a b h = absurd (omega arith)
-        get_or_either (x ∷ xs) zero a b h = refl
-        get_or_either (x ∷ xs) (suc k) a b h = get_or_either xs k a b (omega arith)
+    front : (l : ℕ) (d : TrailEntry) → list_any (λ (e : TrailEntry). nat_eq l (negated e.lit)) (drop n entries) ≡ false → false_place places l < length entries → (get_or entries (false_place places l) d).lit ≡ negated l → false_place places l < n
+    front l d t inside is = ⊎_elim (λ b. b) (λ b.
+        let k : ℕ = false_place places l - n in
+        let at : n + k ≡ false_place places l = omega (arith, b) in
+        let same : (get_or (drop n entries) k d).lit ≡ negated l = ap (λ (e : TrailEntry). e.lit) (get_or-drop n entries k d ∙ ap (λ (i : ℕ). get_or entries i d) at) ∙ is in
+        let within : k < length (drop n entries) = omega (arith, inside, b, length-drop n entries) in
+        let passes : nat_eq l (negated (get_or (drop n entries) k d).lit) ≡ true = eq-eqb _ _ (sym (ap negated same ∙ negated-back l)) in
+        absurd (false≢true (sym t ∙ list_any_at (λ (e : TrailEntry). nat_eq l (negated e.lit)) (drop n entries) k d within passes))) (cases_lt (false_place places l) n)
 
-    other : (l : ℕ) (d : TrailEntry) → (l ≡ negated e.lit → ⊥) → (false_place (set places (negated e.lit) nowhere) l ≡ nowhere) ⊎ ((false_place (set places (negated e.lit) nowhere) l < length (take n entries)) × ((get_or (take n entries) (false_place (set places (negated e.lit) nowhere) l) d).lit ≡ negated l))
-    other l d q = rw (get_or-set_other places (negated e.lit) l nowhere nowhere q) (⊎_elim (λ x. inl x) (λ t. let b = before l d q t in inr (let m = length-take-le n entries (omega arith) in omega arith, rw (get_or-take n entries (false_place places l) d b) t.1)) (s.there l d))
+    by_test : (l : ℕ) (d : TrailEntry) (b : Bool) → list_any (λ (e : TrailEntry). nat_eq l (negated e.lit)) (drop n entries) ≡ b → (false_place (cleared (drop n entries) places) l ≡ nowhere) ⊎ ((false_place (cleared (drop n entries) places) l < length (take n entries)) × ((get_or (take n entries) (false_place (cleared (drop n entries) places) l) d).lit ≡ negated l))
+    by_test l d true t =
+        let w = witness (λ (e : TrailEntry). nat_eq l (negated e.lit)) (drop n entries) none t in
+        let inside : n + w.at < length entries = omega (arith, w.within, length-drop n entries) in
+        let is : l ≡ negated (get_or entries (n + w.at) none).lit = eqb-true _ _ (rw (get_or-drop n entries w.at none) at w.passes) in
+        inl (cleared-here (drop n entries) places l (omega (arith, is, room (n + w.at) none inside)) t)
+    by_test l d false t =
+        rw (cleared-other (drop n entries) places l t) (⊎_elim (λ x. inl x) (λ m. let b = front l d t m.0 m.1 in inr (omega (arith, b, length-take-le n entries short), rw (get_or-take n entries (false_place places l) d b) m.1)) (s.there l d))
 
 -- an entry is of a variable where it is one of its two literals
 lit-cases : (v l : ℕ) → nat_eq v (var_of l) ≡ (nat_eq l (literal v true) || nat_eq l (literal v false))

@@ -1,4 +1,4 @@
-use Rattle.std.specs.Prelude.{◌≡◌, ℕ, ◌+◌, ◌-◌, ◌/◌, ◌≤◌, ◌<◌, ◌⊎◌, true, eqb, List, [], ◌∷◌, length, slice_index_or}
+use Rattle.std.specs.Prelude.{◌≡◌, ℕ, ◌+◌, ◌-◌, ◌/◌, ◌≤◌, ◌<◌, ◌⊎◌, true, eqb, List, [], ◌∷◌, length, slice_index_or, slice_set}
 use Rattle.std.specs.List.{list_any, IsDistinct}
 use Rattle.mal_base.specs.Literals.{negated}
 use Rattle.mal_base.specs.declared.trail_entry.TrailEntry.{TrailEntry}
@@ -35,6 +35,11 @@ nowhere = 4294967295
 -- the place of the entry that makes a literal false, by the literals' codes
 abbrev pub false_place : List ℕ → ℕ → ℕ
 false_place places l = slice_index_or places l nowhere
+
+-- places where no entry makes the literals false that these entries make false
+abbrev pub cleared : List TrailEntry → List ℕ → List ℕ
+cleared [] places = places
+cleared (e ∷ es) places = cleared es (slice_set places (negated e.lit) nowhere)
 
 -- each entry stands at the false place of its literal's negation, and a literal whose false place is somewhere has its
 -- negation there

@@ -1,9 +1,9 @@
 //! The trail: the literals that are true, in the order in which they became so.
 
-ghost use Rattle.std.specs.Prelude.{vec_capacity, ◌≡◌, ℕ, ◌+◌, ◌-◌, ◌≤◌, ◌<◌, false, [], ◌∷◌, ◌++◌, length, take, map, min, true, Some, None, OnOk};
-ghost use Rattle.mal_base.specs.{Literals.{var_of, literal}, Trails.{value_on}};
+ghost use Rattle.std.specs.Prelude.{vec_len, vec_capacity, All, ◌≡◌, ℕ, ◌+◌, ◌-◌, ◌≤◌, ◌<◌, false, [], ◌∷◌, ◌++◌, length, take, drop, map, min, nat_lt, true, Some, None, OnOk};
+ghost use Rattle.mal_base.specs.{Literals.{var_of, literal, negated, IsLiteral}, Trails.{value_on}};
 ghost use Rattle.spec_node.specs.{Load.{counted}, Cut.{kept, removed}, Value.{is_true, is_false, has_value, level_of}};
-ghost use Rattle.mal_trail.specs.Trailed.{false_place};
+ghost use Rattle.mal_trail.specs.Trailed.{false_place, cleared};
 
 use mal_base::{ClauseId, Lit, TrailEntry, TrailView, Var};
 use std::alloc::{AllocError, Global};
@@ -82,7 +82,7 @@ impl Trail {
     pub fn is_true(&self, lit: Lit) -> bool
         ensures { result ≡ is_true self.now.entries lit }
     {
-        self.is_false(lit.negate())
+        self.is_true_before(self.entries.len(), lit)
     }
 
     /// Whether the literal is false.
@@ -97,7 +97,7 @@ impl Trail {
         requires { count ≤ length self.now.entries }
         ensures { result ≡ is_true (take count self.now.entries) lit }
     {
-        self.is_false_before(count, lit.negate())
+        (place_at(self.false_places.as_slice(), negation_code(lit)) as usize) < count
     }
 
     /// Whether the literal is false under the first entries alone, so many.
@@ -105,7 +105,16 @@ impl Trail {
         requires { count ≤ length self.now.entries }
         ensures { result ≡ is_false (take count self.now.entries) lit }
     {
-        (false_place(self.false_places.as_slice(), lit) as usize) < count
+        self.open_until(lit) < count
+    }
+
+    /// How many of the first entries leave the literal not false: under more of them it is false.
+    pub fn open_until(&self, lit: Lit) -> usize
+        ensures { (n : ℕ) → n ≤ length self.now.entries
+            → is_false (take n self.now.entries) lit ≡ nat_lt result n }
+    {
+        let code = lit.code() as usize;
+        place_at(self.false_places.as_slice(), code) as usize
     }
 
     /// No literal is true and false. There is nothing to be done for it.
@@ -193,22 +202,21 @@ impl Trail {
         ensures processed { self.new.processed ≡ self.old.processed }
         ensures room { self.new.room ≡ self.old.room }
     {
-        let code = lit.negate().code() as usize;
+        let code = negation_code(lit);
         self.false_places[code] = self.entries.len() as u32;
         self.entries
             .push_reserved(TrailEntry { lit, reason, level });
     }
 
-    /// Takes the last entry away. No more batches count as handled than the trail then has prefixes.
-    fn pop(&mut self)
-        requires { 1 ≤ length self.old.entries }
-        ensures entries { self.new.entries ≡ take (length self.old.entries - 1) self.old.entries }
-        ensures processed { self.new.processed ≡ min self.old.processed (length self.old.entries) }
+    /// Leaves the first entries, so many. No more batches count as handled than the trail then has prefixes.
+    fn cut(&mut self, count: usize)
+        requires { count ≤ length self.old.entries }
+        ensures entries { self.new.entries ≡ take count self.old.entries }
+        ensures processed { self.new.processed ≡ min self.old.processed (count + 1) }
         ensures room { self.new.room ≡ self.old.room }
     {
-        let count = self.entries.len() - 1;
-        let code = self.entries[count].lit.negate().code() as usize;
-        self.false_places[code] = u32::MAX;
+        let removed = behind(self.entries.as_slice(), count);
+        clear_places(&mut self.false_places, removed);
         self.entries.truncate(count);
         self.processed = self.processed.min(count as u32 + 1);
     }
@@ -226,7 +234,7 @@ impl Trail {
         ensures { result.now ≡ removed level self.now.entries }
     {
         let count = self.count_up_to(level);
-        &self.entries[count..]
+        behind(self.entries.as_slice(), count)
     }
 
     /// Takes away the entries above this level. No more batches count as handled than the trail then has prefixes.
@@ -236,7 +244,7 @@ impl Trail {
         ensures room { self.new.room ≡ self.old.room }
     {
         let count = self.count_up_to(level);
-        cut(self, count);
+        self.cut(count);
     }
 }
 
@@ -256,27 +264,40 @@ impl TrailView for Trail {
     }
 }
 
-/// Leaves the first entries, so many. No more batches count as handled than the trail then has prefixes.
-fn cut(trail: &mut Trail, count: usize)
-    requires { count ≤ length trail.old.entries }
-    ensures entries { trail.new.entries ≡ take count trail.old.entries }
-    ensures processed { trail.new.processed ≡ min trail.old.processed (count + 1) }
-    ensures room { trail.new.room ≡ trail.old.room }
+/// The entries behind the first, so many.
+fn behind(entries: &[TrailEntry], count: usize) -> &[TrailEntry]
+    requires { count ≤ length entries.now }
+    ensures { result.now ≡ drop count entries.now }
 {
-    let _handled = trail.processed();
-    while count < trail.len() {
-        trail.pop();
+    &entries[count..]
+}
+
+/// Makes it so that no entry makes the literals false that these entries make false.
+fn clear_places(places: &mut Vec<u32>, entries: &[TrailEntry])
+    requires { All (λ e. negated e.lit < vec_len places.old) entries.now }
+    ensures { places.new.items ≡ cleared entries.now places.old.items }
+{
+    for entry in entries {
+        places[negation_code(entry.lit)] = u32::MAX;
     }
 }
 
-/// The place of the entry that makes the literal false, the greatest number where there is none.
-fn false_place(places: &[u32], lit: Lit) -> u32
-    ensures { result ≡ false_place places.now lit }
+/// The place of the entry that makes the literal of a code false, the greatest number where there is none.
+fn place_at(places: &[u32], code: usize) -> u32
+    ensures { result ≡ false_place places.now code }
 {
-    let code = lit.code() as usize;
     if code < places.len() {
         places[code]
     } else {
         u32::MAX
     }
+}
+
+/// The code of a literal's negation.
+fn negation_code(lit: Lit) -> usize
+    ensures value { result ≡ negated lit }
+    ensures range { IsLiteral lit }
+{
+    // A literal and its negation differ in the last bit.
+    (lit.code() ^ 1) as usize
 }

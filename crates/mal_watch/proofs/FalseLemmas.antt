@@ -1,5 +1,5 @@
 use Rattle.std.proofs.Common.{◌≡◌, ℕ, zero, suc, ◌+◌, ◌<◌, ◌≤◌, Bool, true, false, ◌||◌, List, [], ◌∷◌, take, refl, sym, ◌∙◌, arith}
-use Rattle.std.specs.Prelude.{nat_eq, nat_lt}
+use Rattle.std.specs.Prelude.{nat_eq, nat_lt, min}
 use Rattle.std.proofs.lemmas.Bool.{false≢true, ltb-true, ltb-false}
 use Rattle.std.proofs.lemmas.Bool.Decides.{nat_tests}
 use Rattle.mal_base.specs.Literals.{negated}
@@ -35,22 +35,10 @@ not_lt a b = grind (arith, nat_tests)
 is_lt : (a b : ℕ) → a < b → nat_lt a b ≡ true
 is_lt a b = grind (arith, nat_tests)
 
--- a literal that is not false is so throughout
-pub open-never : (es : List TrailEntry) (count l : ℕ) → is_false (take count es) l ≡ false → IsOpenUntil es count l count
-open-never es count l o =
-    record {
-      until_is = λ n h. open-less n count es l h o ∙ sym (not_lt count n h);
-      bound = omega arith;
-    }
-
--- a literal that is false under one entry more than it is not
-pub open-until : (es : List TrailEntry) (count low high l : ℕ) → low < high → high ≤ low + 1 → high ≤ count → is_false (take low es) l ≡ false → is_false (take high es) l ≡ true → IsOpenUntil es count l low
-open-until es count low high l a b d o f =
-    record {
-      until_is = λ n h. by_order n (nat_lt low n) refl;
-      bound = omega arith;
-    }
+-- the lesser of two numbers is below a third that is not above the second where the first is
+pub below-least : (r count n least : ℕ) → least ≡ min r count → n ≤ count → nat_lt r n ≡ nat_lt least n
+below-least r count n least e l = by_order (nat_lt r n) refl
   where
-    by_order : (n : ℕ) → (t : Bool) → nat_lt low n ≡ t → is_false (take n es) l ≡ nat_lt low n
-    by_order n true t = let m : low < n = ltb-true low n t in false-more high n es l (omega arith) f ∙ sym t
-    by_order n false t = let m : n ≤ low = ltb-false low n t in open-less n low es l m o ∙ sym t
+    by_order : (b : Bool) → nat_lt r n ≡ b → b ≡ nat_lt least n
+    by_order true t = let m : r < n = ltb-true r n t in sym (is_lt least n (omega arith))
+    by_order false t = let m : n ≤ r = ltb-false r n t in sym (not_lt least n (omega arith))

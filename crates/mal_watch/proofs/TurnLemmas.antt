@@ -321,7 +321,7 @@ stays : (es : List TrailEntry) (q f lists : ℕ) (watched : List NumberedClause)
 stays es q f lists watched keys rest k g = let here = g.left_is k (has-head k k rest refl) in ap (λ (x : ℕ). set keys k x) (sym here.1) ∙ set-get_or keys k 0
 
 -- the other watched literal is true
-visit-spared : (es : List TrailEntry) (q f lists : ℕ) (watched : List NumberedClause) (keys rest : List ℕ) (k : ℕ) → Turns es q f → Goes es q f lists watched keys (k ∷ rest) → is_true (take q es) (other_key keys k) ≡ true → Visited es q f lists watched (set keys k f) rest k []
+pub visit-spared : (es : List TrailEntry) (q f lists : ℕ) (watched : List NumberedClause) (keys rest : List ℕ) (k : ℕ) → Turns es q f → Goes es q f lists watched keys (k ∷ rest) → is_true (take q es) (other_key keys k) ≡ true → Visited es q f lists watched (set keys k f) rest k []
 visit-spared es q f lists watched keys rest k t g u =
     let here = g.left_is k (has-head k k rest refl) in
     let has_o : Has (clause_of watched k).lits (other_key keys k) = other-has lists watched keys k g.watching here.0 in

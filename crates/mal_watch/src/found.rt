@@ -18,5 +18,8 @@ pub fn sort(found: &mut Vec<Found>)
     ensures order { IsNonDecreasingBy (λ f. f.id) found.new.items }
     ensures capacity { vec_capacity found.new ≡ vec_capacity found.old }
 {
+    if found.len() < 2 {
+        return;
+    }
     found.sort_unstable_by_key(|f| f.id.number());
 }

@@ -74,20 +74,7 @@ fn open_until(trail: &Trail, count: usize, lit: Lit) -> usize
     requires { count ≤ length trail.now.entries }
     ensures { IsOpenUntil trail.now.entries count lit result }
 {
-    if !trail.is_false_before(count, lit) {
-        return count;
-    }
-    let mut low = 0;
-    let mut high = count;
-    while high - low > 1 {
-        let middle = low + (high - low) / 2;
-        if trail.is_false_before(middle, lit) {
-            high = middle;
-        } else {
-            low = middle;
-        }
-    }
-    low
+    trail.open_until(lit).min(count)
 }
 
 /// The two literals of a clause that stay open longest under the first entries of the trail, so many.

@@ -3,7 +3,7 @@
 ghost use Rattle.std.specs.Prelude.{◌≡◌, ◌+◌, ◌≤◌, ◌<◌, [], ◌++◌, length, take, drop, ◌∷◌, slice_index, slice_index_or, MatchOption, vec_len, vec_capacity};
 ghost use Rattle.std.specs.Option.{option_to_list};
 ghost use Rattle.mal_store.specs.Arena.{no_clause};
-ghost use Rattle.mal_watch.specs.{Watching.{partner, IsOther, AreOthersFalse, IsSettled}, Going.{Turns, Goes}, Finding.{found_at, found_in}};
+ghost use Rattle.mal_watch.specs.{Watching.{partner, IsOther, AreOthersFalse}, Going.{Turns, Goes}, Finding.{found_at, found_in}};
 
 use crate::found::Found;
 use crate::watch_lists::WatchLists;
@@ -15,7 +15,8 @@ use mal_trail::Trail;
 fn partner(watch: usize) -> usize
     ensures { result ≡ partner watch }
 {
-    if watch % 2 == 0 { watch + 1 } else { watch - 1 }
+    // The two differ in the last bit.
+    watch ^ 1
 }
 
 /// The place of the first literal that may be watched in another's place: not this one, and not false under the first
@@ -56,8 +57,8 @@ fn replacement_from(
 }
 
 /// The place of a literal of a long clause that may be watched in the place of one that is false: not false under the
-/// first entries of the trail, so many, and not the other watched one. None is sought where that one is true under
-/// these entries; a clause of two literals has no other. Neither is looked at.
+/// first entries of the trail, so many, and not the other watched one. A clause of two literals has no other, and is not
+/// looked at.
 fn replacement(
     store: &Store,
     trail: &Trail,
@@ -70,14 +71,11 @@ fn replacement(
     requires two { length (slice_index_or store.now.long clause no_clause).lits ≡ 2
         → AreOthersFalse (take count trail.now.entries) other (slice_index_or store.now.long clause no_clause).lits }
     ensures { MatchOption result
-        (IsSettled (take count trail.now.entries) other (slice_index_or store.now.long clause no_clause).lits)
+        (AreOthersFalse (take count trail.now.entries) other (slice_index_or store.now.long clause no_clause).lits)
         (λ i. (i < length (slice_index_or store.now.long clause no_clause).lits)
         × IsOther (take count trail.now.entries) other (slice_index_or store.now.long clause no_clause).lits
         (slice_index (slice_index_or store.now.long clause no_clause).lits i)) }
 {
-    if trail.is_true_before(count, other) {
-        return None;
-    }
     let lits = store.long_lits(clause);
     if lits.len() == 2 {
         return None;
@@ -112,6 +110,12 @@ fn visit(
 {
     let clause = watch / 2;
     let other = lists.key(partner(watch));
+    if trail.is_true_before(count, other) {
+        // The watch stays, and the clause is not looked at: a cut that takes that literal away takes the false one away
+        // first.
+        lists.put(watch, lit);
+        return None;
+    }
     match replacement(store, trail, count, clause, other) {
         Some(place) => {
             lists.put(watch, store.long_lits(clause)[place]);
@@ -119,8 +123,6 @@ fn visit(
             None
         }
         None => {
-            // Where the other watched literal is true, the watch stays: a cut that takes that literal away takes the
-            // false one away first.
             lists.put(watch, lit);
             if !trail.is_false_before(count, other) && !trail.is_true(other) {
                 Some(Found {

@@ -5,7 +5,7 @@ ghost use Rattle.std.specs.List.Sorted.{IsNonDecreasing};
 ghost use Rattle.mal_watch.specs.{Leaving.{pairs_left}, Watches.{links_of, keys_of}, WatchLists.{Has, AreOnce, IsAt, AreLinked, AreListed}};
 
 use crate::link::Link;
-use mal_base::{ClauseId, Lit};
+use mal_base::{ClauseId, Lit, grown};
 use mal_store::{Store, is_among};
 use std::alloc::{AllocError, Global};
 use std::marker::Model;
@@ -71,9 +71,7 @@ impl WatchLists {
         ensures keys { self.new.keys ≡ self.old.keys }
         ensures out { self.new.out ≡ self.old.out }
     {
-        if MOST - self.watches.len().min(MOST) < watches {
-            return Err(AllocError);
-        }
+        grown(self.watches.len(), watches, MOST)?;
         self.watches.reserve(watches)?;
         if self.heads.len() < lists {
             self.heads.resize(lists, Link::none())?;

@@ -9,7 +9,7 @@ ghost use Rattle.mal_watch.specs.{Finding.{pending}, Fitting.{room_in, Fits}, Fo
 use crate::found::Found;
 use crate::watch_lists::WatchLists;
 use crate::{batch, found, pair, walk};
-use mal_base::{ClauseId, ClauseView, Lit};
+use mal_base::{ClauseId, ClauseView, Lit, grown};
 use mal_store::{Store, sort_ids};
 use mal_trail::{Engine, Listed, Trail};
 use std::alloc::{AllocError, Global};
@@ -129,12 +129,8 @@ impl Engine for Watcher {
         clauses: usize,
         literals: usize,
     ) -> Result<(), AllocError> {
-        let Some(watches) = clauses.checked_mul(2) else {
-            return Err(AllocError);
-        };
-        let Some(total) = clauses.checked_add(self.store.count_long()) else {
-            return Err(AllocError);
-        };
+        let watches = grown(clauses, clauses, usize::MAX)?;
+        let total = grown(clauses, self.store.count_long(), usize::MAX)?;
         self.store.reserve(clauses, literals)?;
         self.lists.reserve(2 * variables as usize + 2, watches)?;
         self.found.clear();

@@ -16,4 +16,4 @@ returns-clause-for_literals c =
     let s = c.self.inside in
     let long = s.long.clauses in
     let es = s.index.entries in
-    rw (c.reserve-3.ensures.clauses, c.reserve.ensures.entries) (on_ok c.reserve-3.result (c.in-Some-checked_add.total ≤ c.reserve-3.new.self.literal_room) (c.args.literals ≤ listed_count long + c.reserve-3.new.self.literal_room - literal_count (held_in long es)) (λ l. omega (arith, l, c.len.ensures, c.in-Some.ensures, c.in-Some-checked_add.ensures, held-length long es, count-listed long (held_in long es) c.self.invariant.once)) c.reserve-3.ensures.for_literals)
+    rw (c.reserve-3.ensures.clauses, c.reserve.ensures.entries) (on_ok c.reserve-3.result (c.in_ok-total.total ≤ c.reserve-3.new.self.literal_room) (c.args.literals ≤ listed_count long + c.reserve-3.new.self.literal_room - literal_count (held_in long es)) (λ l. omega (arith, l, c.len-held.ensures, c.in_ok-twice.ensures.sum, c.in_ok-beside.ensures.sum, c.in_ok-total.ensures.sum, held-length long es, count-listed long (held_in long es) c.self.invariant.once)) c.reserve-3.ensures.for_literals)
