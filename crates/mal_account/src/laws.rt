@@ -1,6 +1,6 @@
 //! Laws about accounts and their texts, as the contracts of functions without a body.
 
-ghost use Rattle.mal_account.specs.{Examples.{HasExamples}, Laws.{SpelledIsRead, WrittenIsRead}};
+ghost use Rattle.mal_account.specs.{Examples.{HasExamples}, Laws.{ScriptFaultIsFirst, ScriptFaultStays, SpelledIsRead, WrittenIsRead}};
 
 /// What is said of small texts.
 #[tactic(auto, using(crate::proofs::AccountExampleLemmas::examples))]
@@ -17,4 +17,10 @@ pub fn spelled_is_read()
 /// A script in form and a history in form are read again from their texts with the line `history` between them.
 pub fn written_is_read()
     ensures { WrittenIsRead }
+{}
+
+/// Nothing behind a faulty line of the script counts.
+pub fn nothing_behind_counts()
+    ensures stays { ScriptFaultStays }
+    ensures first { ScriptFaultIsFirst }
 {}

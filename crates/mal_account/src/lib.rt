@@ -10,6 +10,6 @@ mod telling;
 
 pub use account::Account;
 pub use fault::AccountFault;
-pub use laws::{account_examples, spelled_is_read, written_is_read};
+pub use laws::{account_examples, nothing_behind_counts, spelled_is_read, written_is_read};
 pub use reading::read;
 pub use telling::fault_line;

@@ -1,4 +1,4 @@
-use Rattle.std.proofs.Common.{◌≡◌, ℕ, zero, suc, ◌<◌, Bool, true, false, cond, eqb, List, [], ◌∷◌, ◌++◌, slice_get, length, Option, Some, None, refl, sym, ap, ◌∙◌, subst, inl, inr, ◌⊎◌, arith}
+use Rattle.std.proofs.Common.{◌≡◌, ℕ, zero, suc, ◌<◌, ◌≤◌, ◌+◌, ◌*◌, max, Bool, true, false, cond, eqb, List, [], ◌∷◌, ◌++◌, slice_get, length, Option, Some, None, refl, sym, ap, ◌∙◌, subst, inl, inr, ◌⊎◌, arith}
 use Rattle.std.specs.Option.{option_and_then}
 use Rattle.std.specs.BTreeMap.{is_at}
 use Rattle.std.specs.Ordering.{nat_cmp, is_eq}
@@ -10,7 +10,7 @@ use Rattle.std.proofs.lemmas.Bool.{cases_order, eq-eqb, ne_eqb}
 use Rattle.spec_logic.specs.Refutation.{with_clause}
 use Rattle.mal_check.specs.declared.held.Place.{Place}
 use Rattle.mal_check.specs.declared.held.Place.TheVariants.{Original, Added}
-use Rattle.mal_check.specs.Places.{Placed, clause_at, IsPlace, place_in, HavePlaces}
+use Rattle.mal_check.specs.Places.{Placed, clause_at, IsPlace, IsShort, place_in, HavePlaces}
 use Rattle.mal_check.specs.Checked.{held}
 
 -- the test of a map is that of two equal numbers
@@ -84,6 +84,13 @@ held-original originals added c old new id h put = fun_ext (held-put originals a
 
 pub held-added : (originals added : List (Option (List ℕ))) (c : Option (List ℕ)) (old new : Placed) (id : ℕ) → HavePlaces originals added old → Puts old new id (Added (length added)) → held (record { originals = originals; added = added ++ c ∷ []; ids = new }) ≡ with_clause (held (record { originals = originals; added = added; ids = old })) id c
 held-added originals added c old new id h put = fun_ext (held-put originals added originals (added ++ c ∷ []) c old new id (Added (length added)) h (at-added originals added c) (get-last added c) put)
+
+-- the list by number goes by the clauses
+pub short-original : (originals added : List (Option (List ℕ))) (c : Option (List ℕ)) (old new : Placed) (bound : ℕ) → IsShort originals added old → bound ≤ 2 * (length originals + length added) + 64 → length new.dense ≤ max (length old.dense) bound → IsShort (originals ++ c ∷ []) added new
+short-original originals added c old new bound h low put = omega (arith, length_push originals c)
+
+pub short-added : (originals added : List (Option (List ℕ))) (c : Option (List ℕ)) (old new : Placed) (bound : ℕ) → IsShort originals added old → bound ≤ 2 * (length originals + length added) + 64 → length new.dense ≤ max (length old.dense) bound → IsShort originals (added ++ c ∷ []) new
+short-added originals added c old new bound h low put = omega (arith, length_push added c)
 
 -- the same with the place as a call computed it
 pub puts-at : (old new : Placed) (id : ℕ) (p q : Place) → p ≡ q → Puts old new id p → Puts old new id q

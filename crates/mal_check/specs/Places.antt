@@ -1,5 +1,5 @@
 -- Where the clauses of a checker lie.
-use Rattle.std.specs.Prelude.{◌≡◌, ℕ, ◌<◌, List, [], length, slice_get, slice_index_or, Option, None, Some}
+use Rattle.std.specs.Prelude.{◌≡◌, ℕ, ◌<◌, ◌≤◌, ◌+◌, ◌*◌, List, [], length, slice_get, slice_index_or, Option, None, Some}
 use Rattle.std.specs.Map.{lookup}
 use Rattle.std.specs.BTreeMap.{is_at}
 use Rattle.std.specs.Ordering.{nat_cmp}
@@ -41,3 +41,8 @@ place_in places id = first_place (slice_index_or places.dense id None) (place_of
 -- each id has a place with a clause
 abbrev pub HavePlaces : List (Option (List ℕ)) → List (Option (List ℕ)) → Placed → Type 0
 HavePlaces originals added ids = (id : ℕ) (place : Place) → place_in ids id ≡ Some place → IsPlace originals added place
+
+-- the list by number is at most twice as long as there are clauses, and a few: whatever ids a proof has, it takes no more
+-- room than the clauses
+abbrev pub IsShort : List (Option (List ℕ)) → List (Option (List ℕ)) → Placed → Type 0
+IsShort originals added ids = length ids.dense ≤ 2 * (length originals + length added) + 64

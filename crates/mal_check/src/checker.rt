@@ -5,7 +5,7 @@ ghost use Rattle.std.specs.List.{list_any};
 ghost use Rattle.mal_base.specs.Literals.{negated};
 ghost use Rattle.mal_lrat.specs.LineView.{seen};
 ghost use Rattle.spec_logic.specs.{Logic.{Entails, IsUnsatisfiable}, Derivation.{propagation, derivation}, Refutation.{numbered, with_clause, after_line, added_in, refusal, contradicts}, Refutation.ProofLine.{Add, Delete}};
-ghost use Rattle.mal_check.specs.{Checked.{held, IsSound}, Places.{no_places}, CheckAnswers.{Ends, Answers}};
+ghost use Rattle.mal_check.specs.{Checked.{held, IsSound}, Places.{IsShort, no_places}, CheckAnswers.{Ends, Answers}};
 
 use crate::assumed::has_contradiction;
 use crate::effect::{Effect, effect_of};
@@ -19,7 +19,7 @@ use std::marker::Model;
 
 /// A checker of LRAT proofs: original clauses, and lines that add clauses or delete them, of which it accepts those
 /// that follow. Contracts see the original clauses, the added ones, and what is held under each id; each added clause
-/// is entailed by the originals.
+/// is entailed by the originals. Ids may be far off: the room that their places take goes by the clauses.
 #[derive(Drop)]
 pub struct Checker {
     clauses: Clauses,
@@ -28,13 +28,13 @@ pub struct Checker {
 
 impl Model for Checker {
     ghost use Rattle.std.specs.Prelude.{◌≡◌, []};
-    ghost use Rattle.mal_check.specs.Checked.{Checked, IsSound};
+    ghost use Rattle.mal_check.specs.{Checked.{Checked, IsSound}, Places.{IsShort}};
 
     ghost Value = { Checked };
 
     ghost view = { λ c. c.clauses };
 
-    ghost invariant = { λ c. IsSound c.clauses × (c.trues ≡ []) };
+    ghost invariant = { λ c. IsSound c.clauses × (c.trues ≡ []) × IsShort c.clauses.originals c.clauses.added c.clauses.ids };
 }
 
 impl Checker {
@@ -53,6 +53,7 @@ impl Checker {
         ensures originals { IfOk result (λ c. c.originals ≡ formula.now.clauses) }
         ensures added { IfOk result (λ c. c.added ≡ []) }
         ensures held { IfOk result (λ c. held c ≡ numbered formula.now.clauses) }
+        ensures room { IfOk result (λ c. IsShort c.originals c.added c.ids) }
     {
         let clauses = formula.clauses();
         let mut checker = Checker::new(alloc);
@@ -71,6 +72,7 @@ impl Checker {
         ensures added { OnOk result (self.new.added ≡ self.old.added) }
         ensures held { OnOk result (held self.new ≡ with_clause (held self.old) id clause) }
         ensures err { OnErr result (self.new ≡ self.old) }
+        ensures room { IsShort self.new.originals self.new.added self.new.ids }
     {
         self.clauses.add_original(id, clause)
     }
@@ -84,6 +86,7 @@ impl Checker {
         ensures added { OnOk result (self.new.added ≡ self.old.added ++ added_in (seen line)) }
         ensures held { OnOk result (held self.new ≡ after_line (held self.old) (seen line)) }
         ensures err { OnErr result (self.new ≡ self.old) }
+        ensures room { IsShort self.new.originals self.new.added self.new.ids }
         ensures entailed { All (Entails self.new.originals) self.new.added }
     {
         match line {
@@ -107,6 +110,7 @@ impl Checker {
         ensures added { OnOk result (self.new.added ≡ self.old.added ++ clause ∷ []) }
         ensures held { OnOk result (held self.new ≡ with_clause (held self.old) id clause) }
         ensures err { OnErr result (self.new ≡ self.old) }
+        ensures room { IsShort self.new.originals self.new.added self.new.ids }
         ensures entailed { All (Entails self.new.originals) self.new.added }
     {
         if self.clauses.get(id).is_some() {

@@ -1,9 +1,9 @@
 //! The clauses of a checker.
 
-ghost use Rattle.std.specs.Prelude.{◌≡◌, ℕ, ◌∷◌, ◌++◌, ◌==◌, [], None, if◌then◌else◌, OnOk, OnErr};
+ghost use Rattle.std.specs.Prelude.{◌≡◌, ◌≤◌, ◌+◌, ◌*◌, ℕ, ◌∷◌, ◌++◌, ◌==◌, [], None, length, if◌then◌else◌, OnOk, OnErr};
 ghost use Rattle.std.specs.{List.{list_any}, Option.{option_map}};
 ghost use Rattle.spec_logic.specs.Refutation.{with_clause, without};
-ghost use Rattle.mal_check.specs.{Places.{clause_at, place_in, no_places}, Checked.{held}};
+ghost use Rattle.mal_check.specs.{Places.{IsShort, clause_at, place_in, no_places}, Checked.{held}};
 
 use crate::places::PlaceTable;
 use mal_base::{Clause, ClauseId};
@@ -27,13 +27,13 @@ pub struct Clauses {
 }
 
 impl Model for Clauses {
-    ghost use Rattle.mal_check.specs.{Places.{HavePlaces}, Checked.{Checked}};
+    ghost use Rattle.mal_check.specs.{Places.{HavePlaces, IsShort}, Checked.{Checked}};
 
     ghost Value = { Checked };
 
     ghost view = { λ c. record { originals = c.originals.items; added = c.added.items; ids = c.ids } };
 
-    ghost invariant = { λ c. HavePlaces c.originals.items c.added.items c.ids };
+    ghost invariant = { λ c. HavePlaces c.originals.items c.added.items c.ids × IsShort c.originals.items c.added.items c.ids };
 }
 
 impl Clauses {
@@ -64,6 +64,7 @@ impl Clauses {
         ensures originals { OnOk result (self.new.originals ≡ self.old.originals ++ clause ∷ []) }
         ensures added { OnOk result (self.new.added ≡ self.old.added) }
         ensures held { OnOk result (held self.new ≡ with_clause (held self.old) id clause) }
+        ensures room { IsShort self.new.originals self.new.added self.new.ids }
         ensures err { OnErr result (self.new ≡ self.old) }
     {
         let bound = self.bound();
@@ -80,6 +81,7 @@ impl Clauses {
         ensures originals { OnOk result (self.new.originals ≡ self.old.originals) }
         ensures added { OnOk result (self.new.added ≡ self.old.added ++ clause ∷ []) }
         ensures held { OnOk result (held self.new ≡ with_clause (held self.old) id clause) }
+        ensures room { IsShort self.new.originals self.new.added self.new.ids }
         ensures err { OnErr result (self.new ≡ self.old) }
     {
         let bound = self.bound();
@@ -95,13 +97,16 @@ impl Clauses {
         ensures originals { self.new.originals ≡ self.old.originals }
         ensures added { self.new.added ≡ self.old.added }
         ensures held { held self.new ≡ without (held self.old) ids.now }
+        ensures room { IsShort self.new.originals self.new.added self.new.ids }
     {
         forget(&mut self.ids, ids);
     }
 
     /// Twice as many as there are clauses, and a few. The places of numbers below it take no more room than the
     /// clauses.
-    fn bound(&self) -> usize {
+    fn bound(&self) -> usize
+        ensures { result ≤ 2 * (length self.now.originals + length self.now.added) + 64 }
+    {
         let count = self.originals.len().saturating_add(self.added.len());
         count.saturating_mul(2).saturating_add(64)
     }
@@ -130,8 +135,9 @@ fn clause_at<'a>(
 
 /// Takes these ids away.
 fn forget(places: &mut PlaceTable, ids: &[ClauseId])
-    ensures { (id : ℕ)
+    ensures places { (id : ℕ)
         → place_in places.new id ≡ (if list_any (λ i. i == id) ids.now then None else place_in places.old id) }
+    ensures room { length places.new.dense ≡ length places.old.dense }
 {
     for id in ids {
         places.remove(*id);

@@ -1,6 +1,6 @@
 //! The places of clauses by their numbers.
 
-ghost use Rattle.std.specs.Prelude.{◌≡◌, ℕ, ◌==◌, None, Some, if◌then◌else◌, slice_index_or, OnOk, OnErr};
+ghost use Rattle.std.specs.Prelude.{◌≡◌, ◌≤◌, ◌<◌, ◌+◌, ◌-◌, ◌^◌, ℕ, ◌==◌, None, Some, if◌then◌else◌, length, max, slice_index_or, OnOk, OnErr};
 ghost use Rattle.mal_check.specs.Places.{place_of, place_in, no_places};
 
 use crate::held::Place;
@@ -48,11 +48,12 @@ impl PlaceTable {
         }
     }
 
-    /// Gives a number a place. It stands in the list where the number is below this bound, or the list is longer. Where
-    /// memory is refused nothing changes.
+    /// Gives a number a place. It stands in the list where the number is below this bound, or the list is longer; so the
+    /// list gets no longer than the bound. Where memory is refused nothing changes.
     pub fn put(&mut self, id: ClauseId, place: Place, bound: usize) -> Result<(), AllocError>
         ensures ok { OnOk result
             ((q : ℕ) → place_in self.new q ≡ (if q == id then Some place else place_in self.old q)) }
+        ensures room { length self.new.dense ≤ max (length self.old.dense) bound }
         ensures err { OnErr result (self.new ≡ self.old) }
     {
         let number = id.number();
@@ -66,7 +67,8 @@ impl PlaceTable {
 
     /// Takes a number's place away, if it has one.
     pub fn remove(&mut self, id: ClauseId)
-        ensures { (q : ℕ) → place_in self.new q ≡ (if q == id then None else place_in self.old q) }
+        ensures places { (q : ℕ) → place_in self.new q ≡ (if q == id then None else place_in self.old q) }
+        ensures room { length self.new.dense ≡ length self.old.dense }
     {
         let number = id.number();
         remove_dense(self.dense.as_mut_slice(), number as usize);
@@ -96,17 +98,16 @@ fn sparse_at(sparse: &BTreeMap<u64, Place>, number: u64) -> Option<Place>
 
 /// Gives a number a place in the list. Where memory is refused nothing changes.
 fn put_dense(dense: &mut Vec<Option<Place>>, at: usize, place: Place) -> Result<(), AllocError>
+    requires { at < 2 ^ 64 - 1 }
     ensures ok { OnOk result
         ((q : ℕ)
         → slice_index_or dense.new.items q None
         ≡ (if q == at then Some place else slice_index_or dense.old.items q None)) }
+    ensures room { length dense.new.items ≤ max (length dense.old.items) (at + 1) }
     ensures err { OnErr result (dense.new.items ≡ dense.old.items) }
 {
-    let Some(len) = at.checked_add(1) else {
-        return Err(AllocError);
-    };
-    if dense.len() < len {
-        dense.resize(len, None)?;
+    if dense.len() <= at {
+        dense.resize(at + 1, None)?;
     }
     dense[at] = Some(place);
     Ok(())
@@ -114,7 +115,8 @@ fn put_dense(dense: &mut Vec<Option<Place>>, at: usize, place: Place) -> Result<
 
 /// Takes a number's place out of the list.
 fn remove_dense(dense: &mut [Option<Place>], at: usize)
-    ensures { (q : ℕ) → slice_index_or dense.new q None ≡ (if q == at then None else slice_index_or dense.old q None) }
+    ensures places { (q : ℕ) → slice_index_or dense.new q None ≡ (if q == at then None else slice_index_or dense.old q None) }
+    ensures room { length dense.new ≡ length dense.old }
 {
     if at < dense.len() {
         dense[at] = None;

@@ -2,9 +2,10 @@
 pub mod VerdictLemmas
 pub mod LineLemmas
 pub mod ReadLemmas
+pub mod JudgedLemmas
 -- what this crate alone cites
 mod VerdictExampleLemmas
 mod ClaimExampleLemmas
 mod RowLemmas
-mod Gathered
-pub mod Answered
+mod RowSteps
+mod FirstLemmas

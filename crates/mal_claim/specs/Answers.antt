@@ -1,11 +1,10 @@
 -- What the answers say.
-use Rattle.std.specs.Prelude.{◌≡◌, ℕ, List, ◌++◌, Result, Ok, Err}
+use Rattle.std.specs.Prelude.{◌≡◌, ℕ, Result, Ok, Err}
 use Rattle.mal_lrat.specs.declared.fault.LineFault.{LineFault}
 use Rattle.mal_lrat.specs.declared.fault.LineFault.TheVariants as answer
 use Rattle.spec_lrat.specs.Reading.{Fault}
 use Rattle.spec_lrat.specs.Reading.Fault.{BadNumber, MissingZero, IdNotRising, NegativeHint}
-use Rattle.mal_claim.specs.Proofs.{Numbered, Read}
-use Rattle.mal_claim.specs.declared.proof_reading.ProofFault.{ProofFault}
+use Rattle.mal_claim.specs.declared.row.ProofFault.{ProofFault}
 
 -- an answer other than want of memory is this fault of this line
 abbrev pub FailsAt : {Y : Type 0} → ℕ → LineFault → Result Y (ℕ × Fault) → Type 0
@@ -22,8 +21,3 @@ Fails e read = FailsAt e.line e.fault read
 abbrev pub Gives : {X Y : Type 0} → (X → Y) → Result X ProofFault → Result Y (ℕ × Fault) → Type 0
 Gives view (Ok x) read = read ≡ Ok (view x)
 Gives view (Err e) read = Fails e read
-
--- the answer is the last id after a row, and its line, if it spells one, stands after the lines before
-abbrev pub GivesRow : List Numbered → List Numbered → Result ℕ ProofFault → Result Read (ℕ × Fault) → Type 0
-GivesRow old new (Ok last) read = (lines : List Numbered) × (read ≡ Ok (record { last = last; lines = lines })) × (new ≡ old ++ lines)
-GivesRow old new (Err e) read = Fails e read

@@ -1,5 +1,5 @@
 -- Reading a claim that nothing satisfies a formula and assumptions, with its proof: the claim, or the first fault.
-use Rattle.std.specs.Prelude.{ℕ, suc, Bool, List, [], ◌∷◌, length, codes, if◌then◌else◌, Result, Ok, Err}
+use Rattle.std.specs.Prelude.{ℕ, suc, Bool, List, [], ◌∷◌, length, codes, if◌then◌else◌, Option, Result, Ok, Err}
 use Rattle.std.specs.List.{list_any}
 use Rattle.mal_base.specs.Formulas.{Formulated}
 use Rattle.mal_base.specs.declared.block_fault.BlockFault.{BlockFault}
@@ -11,7 +11,8 @@ use Rattle.mal_base.specs.declared.line_fault.LineFault.TheVariants.{BadLine, Di
 use Rattle.spec_script.specs.Assumptions.{assumptions_of}
 use Rattle.spec_lrat.specs.Reading as proof
 use Rattle.mal_instance.specs.Rows.{formula_of, formula_rows, rows_after}
-use Rattle.mal_claim.specs.Proofs.{Numbered, lines_from}
+use Rattle.spec_logic.specs.Derivation.{Holding}
+use Rattle.mal_claim.specs.Proofs.{Numbered, Verdict, lines_from, verdict_from, verdict_of}
 
 -- a formula, assumptions, and the lines of a proof that nothing satisfies both
 pub record Claim : Type 0 where
@@ -72,6 +73,17 @@ assumed variables line (row ∷ rows) =
 abbrev pub claim_of : Formulated → Assumed → Result Claim Fault
 claim_of f a = in_proof (lines_from 1 (length f.clauses) a.rows) >>= λ lines. Ok (record { formula = f; assumptions = a.assumptions; lines = lines })
 
+-- a text up to the line `proof`
+pub record Opened : Type 0 where
+  pub formula : Formulated
+  pub assumed : Assumed
+
+abbrev pub opened : List (List (List ℕ)) → Result Opened Fault
+opened rows =
+    in_formula (formula_of ending rows)
+    >>= λ f. assumed f.variables (length (formula_rows ending rows)) (rows_after ending rows)
+    >>= λ a. Ok (record { formula = f; assumed = a })
+
 -- the lines of a text in which a line says `proof`
 abbrev pub read_lines : List (List (List ℕ)) → Result Claim Fault
 read_lines rows =
@@ -82,3 +94,25 @@ read_lines rows =
 -- the claim of a text, or its first fault; the line `proof` is looked for before anything else is read
 abbrev pub read_text : List ℕ → Result Claim Fault
 read_text text = if list_any is_proof_line (rows_of text) then read_lines (rows_of text) else Err NoProof
+
+-- the verdict on the proof of a claim
+abbrev pub verdict_on : Claim → Verdict
+verdict_on c = verdict_of c.formula.clauses c.assumptions c.lines
+
+-- what is said of a text: the verdict on its proof, or its first fault
+abbrev pub judged : Result Claim Fault → Result Verdict Fault
+judged read = read >>= λ c. Ok (verdict_on c)
+
+abbrev pub said : List ℕ → Result Verdict Fault
+said text = judged (read_text text)
+
+-- the same of lines among which one says `proof`, and of what stands behind that one
+abbrev pub said_of_rows : List (List (List ℕ)) → Result Verdict Fault
+said_of_rows rows = judged (read_lines rows)
+
+abbrev pub said_behind : Opened → Result Verdict Fault
+said_behind o = judged (claim_of o.formula o.assumed)
+
+-- the verdict on lines that are read, of a checker that holds so much, and has added so much
+abbrev pub verdict_after : Holding → List (Option (List ℕ)) → List ℕ → Result (List Numbered) (ℕ × proof.Fault) → Result Verdict Fault
+verdict_after held added assumptions read = in_proof read >>= λ lines. Ok (verdict_from held added assumptions lines)

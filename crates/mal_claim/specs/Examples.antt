@@ -1,22 +1,13 @@
 -- What small texts say.
-use Rattle.std.specs.Prelude.{◌≡◌, ℕ, List, ◌++◌, codes, Result, Ok, Err}
+use Rattle.std.specs.Prelude.{◌≡◌, ℕ, List, ◌++◌, codes, Ok, Err}
 use Rattle.mal_base.specs.declared.block_fault.BlockFault.TheVariants as block
 use Rattle.spec_logic.specs.Refutation.Refusal.{UnknownHint, HintNotUnit, NoContradiction}
 use Rattle.mal_base.specs.declared.line_fault.LineFault.TheVariants as line
 use Rattle.spec_lrat.specs.Reading as proof
-use Rattle.mal_claim.specs.Proofs.{Verdict, verdict_of}
 use Rattle.mal_claim.specs.Proofs.Verdict.{Verified, Refused, NoGoal}
-use Rattle.mal_claim.specs.Claims.{Claim, Fault, read_text}
+use Rattle.mal_claim.specs.Claims.{said}
 use Rattle.mal_claim.specs.Claims.Fault.{NoProof, InFormula, InProof}
 use Rattle.mal_claim.specs.FaultLines.{fault_line, verdict_line}
-
--- what is said of a text: the verdict on its proof, or its first fault
-abbrev pub judged : Result Claim Fault → Result Verdict Fault
-judged (Ok c) = Ok (verdict_of c.formula.clauses c.assumptions c.lines)
-judged (Err fault) = Err fault
-
-abbrev pub said : List ℕ → Result Verdict Fault
-said text = judged (read_text text)
 
 -- the clauses 1 2, 1 -2, -1 2 and -1 -2
 abbrev pub four : List ℕ

@@ -7,7 +7,7 @@ pub mod Grammar
 pub mod FaultLines
 pub mod Laws
 pub mod Examples
-pub mod Views
 pub mod Answers
 pub mod Verdicts
 pub mod ReadResult
+pub mod Judged

@@ -31,10 +31,26 @@ with_number number last (Err fault) = Err (number, fault)
 abbrev pub row_at : ℕ → ℕ → List (List ℕ) → Result Read (ℕ × Fault)
 row_at number last row = if is_passed row then Ok (record { last = last; lines = [] }) else with_number number last (reading last row)
 
+-- the line of this number that a row spells, if it spells one, and the last id after it
+abbrev pub line_at : ℕ → Option ProofLine → List Numbered
+line_at number None = []
+line_at number (Some line) = record { number = number; line = line } ∷ []
+
+abbrev pub last_of : ℕ → Option ProofLine → ℕ
+last_of last None = last
+last_of last (Some line) = last_after last line
+
+abbrev pub read_of : ℕ → ℕ → Option ProofLine → Read
+read_of number last line = record { last = last_of last line; lines = line_at number line }
+
 -- the lines of a proof's rows, of which the first is line `number` of the text, or the first fault with its line
 abbrev pub lines_from : ℕ → ℕ → List (List (List ℕ)) → Result (List Numbered) (ℕ × Fault)
 lines_from number last [] = Ok []
 lines_from number last (row ∷ rows) = row_at number last row >>= λ read. lines_from (suc number) read.last rows >>= λ others. Ok (read.lines ++ others)
+
+-- whether rows are those of a proof, or their first fault
+abbrev pub first_fault : {A : Type 0} → Result A (ℕ × Fault) → Result (Unit {0}) (ℕ × Fault)
+first_fault read = read >>= λ lines. Ok tt
 
 -- the first refused line with its refusal
 abbrev pub first_of : Option Refusal → ℕ → Option (ℕ × Refusal) → Option (ℕ × Refusal)
@@ -62,3 +78,7 @@ judged None false = NoGoal
 
 abbrev pub verdict_of : List (Option (List ℕ)) → List ℕ → List Numbered → Verdict
 verdict_of clauses assumptions lines = judged (first_refused (numbered clauses) lines) (list_any (contradicts assumptions) (added_by (bare lines)))
+
+-- the verdict on the lines that are left, of a checker that holds so much, and has added so much
+abbrev pub verdict_from : Holding → List (Option (List ℕ)) → List ℕ → List Numbered → Verdict
+verdict_from held added assumptions lines = judged (first_refused held lines) (list_any (contradicts assumptions) (added ++ added_by (bare lines)))

@@ -16,17 +16,12 @@ use Rattle.mal_claim.specs.Claims.Fault.{NoProof, InFormula, InProof}
 use Rattle.mal_claim.specs.FaultLines.{verdict_line}
 use Rattle.mal_lrat.specs.declared.fault.LineFault.TheVariants as lrat
 use Rattle.mal_lrat.specs.declared.fault.LineFault as declared
-use Rattle.mal_claim.specs.declared.checking.VerifyFault.{VerifyFault}
-use Rattle.mal_claim.specs.declared.checking.VerifyFault.TheVariants as verify
+use Rattle.mal_claim.specs.declared.denial.VerifyFault.{VerifyFault}
+use Rattle.mal_claim.specs.declared.denial.VerifyFault.TheVariants as verify
 use Rattle.mal_claim.specs.Verdicts.{refusal_of}
-use Rattle.mal_claim.specs.Views.{views}
-use Rattle.mal_claim.specs.declared.claim.Claim.{Claim}
+use Rattle.mal_claim.specs.declared.opened as code
 use Rattle.mal_claim.specs.declared.fault.ClaimFault.{ClaimFault}
 use Rattle.mal_claim.specs.declared.fault.ClaimFault.TheVariants as claimed
-
--- a claim without where its lines lie in memory
-abbrev pub seen : Claim → claim.Claim
-seen c = record { formula = c.formula; assumptions = c.assumptions.items; lines = views c.lines.items }
 
 -- the fault of a proof's line, none for want of memory
 abbrev pub in_line : ℕ → declared.LineFault → Option claim.Fault
@@ -76,3 +71,7 @@ IsAssumed line assumption.OutOfMemory e = e ≡ claimed.OutOfMemory
 -- what was answered after the formula: the assumptions, and the text of the proof
 abbrev pub seen_assumed : List ℕ → List ℕ → claim.Assumed
 seen_assumed lits text = record { assumptions = lits; rows = rows_of text }
+
+-- a text up to the line `proof`, without where it lies in memory
+abbrev pub opened_seen : code.Opened.Opened → claim.Opened
+opened_seen o = record { formula = o.formula; assumed = seen_assumed o.assumptions.items o.proof.now }

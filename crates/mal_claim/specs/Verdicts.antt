@@ -6,8 +6,8 @@ use Rattle.spec_logic.specs.Refutation.{Refusal}
 use Rattle.spec_logic.specs.Refutation.Refusal.{IdUsed, UnknownHint, HintNotUnit, NoContradiction}
 use Rattle.mal_claim.specs.Proofs.{Verdict}
 use Rattle.mal_claim.specs.Proofs.Verdict.{Verified, Refused, NoGoal}
-use Rattle.mal_claim.specs.declared.checking.VerifyFault.{VerifyFault}
-use Rattle.mal_claim.specs.declared.checking.VerifyFault.TheVariants as answer
+use Rattle.mal_claim.specs.declared.denial.VerifyFault.{VerifyFault}
+use Rattle.mal_claim.specs.declared.denial.VerifyFault.TheVariants as answer
 
 -- the refusal that a fault of the checker is, none for want of memory
 abbrev pub refusal_of : CheckFault → Option Refusal
@@ -25,20 +25,7 @@ IsFault line (fault.HintNotUnit id) e = e ≡ answer.Refused line (fault.HintNot
 IsFault line fault.NoContradiction e = e ≡ answer.Refused line fault.NoContradiction
 IsFault line fault.OutOfMemory e = e ≡ answer.OutOfMemory
 
--- the first refused line is this one; want of memory is never told as a refusal
-abbrev pub IsRefused : ℕ → Option Refusal → Option (ℕ × Refusal) → Type 0
-IsRefused line None first = ⊥
-IsRefused line (Some refusal) first = first ≡ Some (line, refusal)
-
-abbrev pub StopsAt : VerifyFault → Option (ℕ × Refusal) → Type 0
-StopsAt (answer.Refused line fault) first = IsRefused line (refusal_of fault) first
-StopsAt answer.NoGoal first = ⊥
-StopsAt answer.OutOfMemory first = Unit {0}
-
-abbrev pub SaysLine : {X : Type 0} → Result X VerifyFault → Option (ℕ × Refusal) → Type 0
-SaysLine (Ok x) first = first ≡ None
-SaysLine (Err e) first = StopsAt e first
-
+-- the verdict is this refusal; want of memory is never told as one
 abbrev pub IsVerdict : ℕ → Option Refusal → Verdict → Type 0
 IsVerdict line None said = ⊥
 IsVerdict line (Some refusal) said = said ≡ Refused line refusal

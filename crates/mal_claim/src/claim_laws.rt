@@ -1,6 +1,6 @@
 //! Laws about claims and their texts, as the contracts of functions without a body.
 
-ghost use Rattle.mal_claim.specs.{Examples.{HasExamples}, Laws.{SpelledIsRead}};
+ghost use Rattle.mal_claim.specs.{Examples.{HasExamples}, Laws.{OpeningFaultIsFirst, ProofFaultIsFirst, SpelledIsRead}};
 
 /// What is said of small texts.
 pub fn claim_examples()
@@ -11,4 +11,10 @@ pub fn claim_examples()
 /// spells one.
 pub fn spelled_is_read()
     ensures { SpelledIsRead }
+{}
+
+/// Nothing behind the first faulty line of a text counts, whether it stands before the line `proof` or behind it.
+pub fn nothing_behind_counts()
+    ensures opening { OpeningFaultIsFirst }
+    ensures proof { ProofFaultIsFirst }
 {}

@@ -3,7 +3,7 @@
 ghost use Rattle.std.specs.Prelude.{◌≡◌};
 ghost use Rattle.mal_claim.specs.{declared.fault.ClaimFault.TheVariants.{OutOfMemory}, ReadResult.{of_formula}};
 
-use crate::ProofFault;
+use crate::row::ProofFault;
 use mal_base::LineFault;
 use mal_dimacs::DimacsFault;
 use std::alloc::AllocError;

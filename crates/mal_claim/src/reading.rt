@@ -1,15 +1,12 @@
-//! Reading claims.
+//! Reading claims up to their proofs.
 
 ghost use Rattle.std.specs.Prelude.{◌≡◌, ◌≤◌, ◌<◌, ◌+◌, ◌^◌, length, IfOk};
 ghost use Rattle.std.specs.List.{list_any};
 ghost use Rattle.spec_dimacs.specs.Rows.{rows_of};
-ghost use Rattle.mal_claim.specs.Proofs.{lines_from};
-ghost use Rattle.mal_claim.specs.{Claims.{is_proof_line, assumed, to_proof, in_proof, read_lines, read_text}, Grammar.{Spells}};
-ghost use Rattle.mal_claim.specs.{Views.{views}, ReadResult.{Gives, IsAssumed, seen, seen_assumed}};
+ghost use Rattle.mal_claim.specs.{Claims.{is_proof_line, assumed, to_proof, opened}, ReadResult.{Gives, IsAssumed, opened_seen, seen_assumed}};
 
-use crate::claim::Claim;
 use crate::fault::ClaimFault;
-use crate::{NumberedLine, read_proof};
+use crate::opened::Opened;
 use mal_base::{LineFault, Lit};
 use mal_dimacs::is_passed;
 use mal_instance::read_formula;
@@ -17,35 +14,8 @@ use mal_script::{AssumptionFault, assumptions};
 use mal_text::{first_line, is_word_line};
 use std::alloc::Global;
 
-/// The claim that a text spells: a formula by DIMACS CNF, maybe a line `a`, literals and 0, then the line `proof`, and
-/// the lines of a proof.
-///
-/// Errors: `NoProof` where no line is the one word `proof`; else the first fault of the text, from its beginning, with
-/// its line. Lines of the proof are counted from 1 after the line `proof`. `OutOfMemory` may come at any time.
-pub fn read(alloc: Global, text: &[u8]) -> Result<Claim, ClaimFault>
-    requires { length text.now < 2 ^ 63 }
-    // Which claim or which fault it is.
-    ensures exact { Gives seen result (read_text text.now) }
-    // What is read is spelled so.
-    ensures spelled { IfOk result (λ c. Spells text.now (seen c)) }
-{
-    first(alloc, text)
-}
-
-/// The claim of a text, or its first fault.
-fn first(alloc: Global, text: &[u8]) -> Result<Claim, ClaimFault>
-    requires { length text.now < 2 ^ 63 }
-    ensures { Gives seen result (read_text text.now) }
-{
-    if has_proof(text) {
-        read_lines(alloc, text)
-    } else {
-        Err(ClaimFault::NoProof)
-    }
-}
-
 /// Whether a line of a text is the one word `proof`.
-fn has_proof(text: &[u8]) -> bool
+pub fn has_proof(text: &[u8]) -> bool
     ensures { result ≡ list_any is_proof_line (rows_of text.now) }
 {
     let mut rest = text;
@@ -58,18 +28,18 @@ fn has_proof(text: &[u8]) -> bool
     false
 }
 
-/// The claim of a text in which a line is the word `proof`.
-fn read_lines(alloc: Global, text: &[u8]) -> Result<Claim, ClaimFault>
+/// The formula and the assumptions of a text in which a line is the word `proof`, and the text of the proof.
+pub fn read_opening(alloc: Global, text: &[u8]) -> Result<Opened, ClaimFault>
     requires { length text.now < 2 ^ 63 }
-    ensures { Gives seen result (read_lines (rows_of text.now)) }
+    ensures value { Gives (λ o. opened_seen o) result (opened (rows_of text.now)) }
+    ensures shorter { IfOk result (λ o. length o.proof.now ≤ length text.now) }
 {
     let (formula, line, rest) = read_formula(alloc, text, &[b"a".as_slice(), b"proof"])?;
-    let (assumptions, rest) = read_assumptions(alloc, rest, line, formula.variables())?;
-    let lines = proof_lines(alloc, rest, formula.clauses().len() as u64)?;
-    Ok(Claim {
+    let (assumptions, proof) = read_assumptions(alloc, rest, line, formula.variables())?;
+    Ok(Opened {
         formula,
         assumptions,
-        lines,
+        proof,
     })
 }
 
@@ -139,17 +109,5 @@ fn on_line(line: u64, fault: AssumptionFault) -> ClaimFault
             fault: LineFault::Opposite { var },
         },
         AssumptionFault::OutOfMemory => ClaimFault::OutOfMemory,
-    }
-}
-
-/// The lines of a proof from so many clauses.
-#[tactic(auto, using(crate::proofs::Answered::proof_lemmas))]
-fn proof_lines(alloc: Global, text: &[u8], clauses: u64) -> Result<Vec<NumberedLine>, ClaimFault>
-    requires { length text.now < 2 ^ 63 }
-    ensures { Gives (λ v. views v.items) result (in_proof (lines_from 1 clauses (rows_of text.now))) }
-{
-    match read_proof(alloc, text, clauses) {
-        Ok(lines) => Ok(lines),
-        Err(fault) => Err(ClaimFault::Proof { fault }),
     }
 }

@@ -5,7 +5,7 @@ ghost use Rattle.spec_text.specs.{Faults.{TellsBy}, Lines.{line_of}, Numbers.{de
 ghost use Rattle.mal_claim.specs.FaultLines.{fault_line, proof_line};
 ghost use Rattle.mal_claim.specs.{ReadResult.{TellsVerdict, fault_of, in_line, refused, verdict_in}, Verdicts.{refusal_of}};
 
-use crate::VerifyFault;
+use crate::denial::VerifyFault;
 use crate::fault::ClaimFault;
 use mal_check::CheckFault;
 use mal_script::line_fault_line;

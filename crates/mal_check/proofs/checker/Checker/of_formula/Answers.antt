@@ -14,4 +14,7 @@ original-requires-in-loop-index c =
 pub loop-index-preserved : goal.loop-index-preserved
 loop-index-preserved c =
     let low : c.loop-index.index < length c.clauses-clauses.result.now = omega arith in
-    (originals-next c.clauses-clauses.result.now c.loop-index.checker.originals c.original-in-loop-index.new.self.originals c.loop-index.index c.in_ok-clause.clause None low c.loop-index.invariant.0 c.in_ok-original.ensures.originals c.in_ok-clause.ensures, c.in_ok-original.ensures.added ∙ c.loop-index.invariant.1, c.in_ok-original.ensures.held ∙ numbered-next (held c.loop-index.checker) c.clauses-clauses.result.now c.loop-index.index c.original.result c.in_ok-clause.clause None low c.loop-index.invariant.2 c.original.ensures c.in_ok-clause.ensures)
+    (originals-next c.clauses-clauses.result.now c.loop-index.checker.originals c.original-in-loop-index.new.self.originals c.loop-index.index c.in_ok-clause.clause None low c.loop-index.invariant.0 c.in_ok-original.ensures.originals c.in_ok-clause.ensures, c.in_ok-original.ensures.added ∙ c.loop-index.invariant.1, c.in_ok-original.ensures.held ∙ numbered-next (held c.loop-index.checker) c.clauses-clauses.result.now c.loop-index.index c.original.result c.in_ok-clause.clause None low c.loop-index.invariant.2 c.original.ensures c.in_ok-clause.ensures, c.original-in-loop-index.ensures.room)
+
+pub returns-clause-room : goal.returns-clause-room
+returns-clause-room c = c.loop-index.invariant.3

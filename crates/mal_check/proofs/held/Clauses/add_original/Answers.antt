@@ -1,10 +1,12 @@
 use Rattle.std.proofs.Common.{ap, length, arith}
 use Rattle.mal_check.specs.declared.held.Place.TheVariants.{Original}
-use Rattle.mal_check.proofs.PlaceLemmas.{have-original, held-original, puts-at}
+use Rattle.mal_check.proofs.PlaceLemmas.{have-original, held-original, puts-at, short-original}
 use Rattle.mal_check.proofs.held.Clauses.add_original.Goals as goal
 
 pub invariant_of-self-2 : goal.invariant_of-self-2
-invariant_of-self-2 c = rw (c.push_reserved.ensures.items, c.reserve.ensures.items) (have-original c.self.inside.originals.items c.self.inside.added.items c.args.clause c.self.inside.ids c.put.new.self c.args.id c.self.invariant (puts-at c.self.inside.ids c.put.new.self c.args.id (Original c.len.result) (Original (length c.self.inside.originals.items)) (ap Original (omega arith)) c.in_ok-put.ensures.ok))
+invariant_of-self-2 c =
+    let low = rw (← c.self.view_is) at c.bound-bound.ensures in
+    rw (c.push_reserved.ensures.items, c.reserve.ensures.items) (have-original c.self.inside.originals.items c.self.inside.added.items c.args.clause c.self.inside.ids c.put.new.self c.args.id c.self.invariant.0 (puts-at c.self.inside.ids c.put.new.self c.args.id (Original c.len.result) (Original (length c.self.inside.originals.items)) (ap Original (omega arith)) c.in_ok-put.ensures.ok), short-original c.self.inside.originals.items c.self.inside.added.items c.args.clause c.self.inside.ids c.put.new.self c.bound-bound.result c.self.invariant.1 low c.put.ensures.room)
 
 pub returns-clause-held : goal.returns-clause-held
-returns-clause-held c = rw (← c.self.view_is, c.push_reserved.ensures.items, c.reserve.ensures.items) (held-original c.self.inside.originals.items c.self.inside.added.items c.args.clause c.self.inside.ids c.put.new.self c.args.id c.self.invariant (puts-at c.self.inside.ids c.put.new.self c.args.id (Original c.len.result) (Original (length c.self.inside.originals.items)) (ap Original (omega arith)) c.in_ok-put.ensures.ok))
+returns-clause-held c = rw (← c.self.view_is, c.push_reserved.ensures.items, c.reserve.ensures.items) (held-original c.self.inside.originals.items c.self.inside.added.items c.args.clause c.self.inside.ids c.put.new.self c.args.id c.self.invariant.0 (puts-at c.self.inside.ids c.put.new.self c.args.id (Original c.len.result) (Original (length c.self.inside.originals.items)) (ap Original (omega arith)) c.in_ok-put.ensures.ok))

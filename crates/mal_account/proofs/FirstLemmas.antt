@@ -1,0 +1,45 @@
+-- What is told of a text whose first fault is in its script, whatever stands behind it.
+use Rattle.std.proofs.Common.{◌≡◌, ℕ, cond, Bool, List, [], ◌∷◌, ◌++◌, codes, Result, Ok, Err, refl, sym, ap, ap₂, ◌∙◌}
+use Rattle.std.specs.List.{list_any}
+use Rattle.spec_dimacs.specs.Rows.{rows_of}
+use Rattle.spec_dimacs.specs.Reading.{◌>>=◌}
+use Rattle.mal_base.specs.declared.line_fault.LineFault.{LineFault}
+use Rattle.spec_script.specs.Limits.{served}
+use Rattle.spec_script.specs.Script.{Scripted}
+use Rattle.spec_script.specs.Reading as script
+use Rattle.spec_script.proofs.Firsts.{fault_is_first}
+use Rattle.mal_history.specs.Reading as history
+use Rattle.mal_account.specs.Accounts.{Account, Fault, is_history_line, in_script, in_history, read_lines, read_text}
+use Rattle.mal_account.specs.Accounts.Fault.{NoHistory, InScript}
+use Rattle.mal_account.specs.Laws.{IsCutBehind, ScriptFaultIsFirst, ScriptFaultStays}
+use Rattle.mal_account.proofs.RowLemmas.{some-line, script-before, history-after}
+
+-- the account of a script and a history that are read so
+abbrev account_of : Result Scripted (ℕ × LineFault) → Result history.Read (ℕ × history.Fault) → Result Account Fault
+account_of s h = in_script s >>= λ x. in_history h >>= λ y. Ok (record { script = x; history = y })
+
+text-cut : (text first : List ℕ) (behind : List (List (List ℕ))) → IsCutBehind text first behind → read_text text ≡ account_of (script.read_text served first) (history.read_rows behind)
+text-cut text first behind c =
+    ap (λ (rs : List (List (List ℕ))). cond (list_any is_history_line rs) (read_lines rs) (Err NoHistory)) c.1
+    ∙ ap (λ (b : Bool). cond b (read_lines (rows_of first ++ (codes "history" ∷ []) ∷ behind)) (Err NoHistory)) (some-line (rows_of first) behind (codes "history" ∷ []) refl)
+    ∙ ap₂ (λ (f b : List (List (List ℕ))). account_of (script.read_rows served f 0 script.unread) (history.read_rows b)) (script-before (rows_of first) behind (codes "history" ∷ []) c.0 refl) (history-after (rows_of first) behind (codes "history" ∷ []) c.0 refl)
+
+-- such a fault is one of the script's text
+script-faulty : (s : Result Scripted (ℕ × LineFault)) (h : Result history.Read (ℕ × history.Fault)) (line : ℕ) (fault : LineFault) → account_of s h ≡ Err (InScript line fault) → s ≡ Err (line, fault)
+script-faulty (Err (n, f)) h line fault e = let first : n ≡ line = cc in let second : f ≡ fault = cc in ap₂ (λ (x : ℕ) (y : LineFault). Err (x, y)) first second
+script-faulty (Ok x) (Ok y) line fault e = absurd (cc)
+script-faulty (Ok x) (Err (n, f)) line fault e = absurd (cc)
+
+-- and is told whatever the history is
+told-first : (first : List ℕ) (h : Result history.Read (ℕ × history.Fault)) (line : ℕ) (fault : LineFault) → script.read_text served first ≡ Err (line, fault) → account_of (script.read_text served first) h ≡ Err (InScript line fault)
+told-first first h line fault e = ap (λ (s : Result Scripted (ℕ × LineFault)). account_of s h) e
+
+pub script_fault_stays : ScriptFaultStays
+script_fault_stays first behind others text other line fault c d e =
+    let faulty = script-faulty (script.read_text served first) (history.read_rows behind) line fault (sym (text-cut text first behind c) ∙ e) in
+    text-cut other first others d ∙ told-first first (history.read_rows others) line fault faulty
+
+pub script_fault_is_first : ScriptFaultIsFirst
+script_fault_is_first first front behind others text other line fault c d e low same =
+    let faulty = script-faulty (script.read_text served first) (history.read_rows behind) line fault (sym (text-cut text first behind c) ∙ e) in
+    text-cut other front others d ∙ told-first front (history.read_rows others) line fault (fault_is_first served first front line fault faulty low same)
