@@ -29,6 +29,7 @@ use Rattle.spec_parcel.specs.Packed.{Placed, answer_bytes, has_run, listed, node
 use Rattle.spec_parcel.proofs.SectionLemmas.{listed-map}
 use Rattle.mal_parcel.specs.Parcelled.{IsReadBack}
 use Rattle.mal_parcel.specs.Replaying.{IsReplayed, IsToWake, answers_left, found_machine, machine_of, slices_left}
+use Rattle.mal_parcel.proofs.TakenLemmas.{never-both}
 use Rattle.mal_parcel.proofs.ReadableLemmas.{runs-low}
 
 -- a machine has no more slices than its journals have runs
@@ -174,6 +175,16 @@ module _ (k : Key) (own : List Own) (lawful : IsLawful own) (again : All (IsRead
       let many : length (map (placed (solo own)) (ran_indices (solo own))) ≡ length (ran_indices (solo own)) = length-map (ran_indices (solo own)) (placed (solo own)) in
       let few : length (ran_indices (solo own)) ≤ 64 = ran-few (solo own) in
       of-found (found (spelling (script_of k own)) (own_text k own) (map (placed (solo own)) (ran_indices (solo own))) (solo own).slices (length (solo own).answers) (flat_map answer_bytes (solo own).answers) (omega (arith, many, few)) (slices-short own lawful) (is ∙ parcel-parts k own))
+
+  -- and they are found
+  pub always-cut : (bytes : List ℕ) → bytes ≡ parcel_bytes k own
+      → ((script events : List ℕ) (ps : List Placed) (cs : List Slice) (n : ℕ) (last : List ℕ) → length ps < 2 ^ 64 → length cs < 2 ^ 64 → bytes ≡ codes "MALPACK1" ++ (sized script ++ (sized events ++ machine_of ps cs (spelled w64 n) last)) → None ≡ found_machine ps cs (spelled w64 n) last)
+      → ⊥
+  always-cut bytes is found =
+      let many : length (map (placed (solo own)) (ran_indices (solo own))) ≡ length (ran_indices (solo own)) = length-map (ran_indices (solo own)) (placed (solo own)) in
+      let few : length (ran_indices (solo own)) ≤ 64 = ran-few (solo own) in
+      never-both (found_machine (map (placed (solo own)) (ran_indices (solo own))) (solo own).slices (spelled w64 (length (solo own).answers)) (flat_map answer_bytes (solo own).answers)) _ refl
+      (sym (found (spelling (script_of k own)) (own_text k own) (map (placed (solo own)) (ran_indices (solo own))) (solo own).slices (length (solo own).answers) (flat_map answer_bytes (solo own).answers) (omega (arith, many, few)) (slices-short own lawful) (is ∙ parcel-parts k own)))
 
 -- a job that was opened stands behind its first event
 pub opened-replayed : (number : ℕ) (key : Key) (own : List Own) (made : JobView) (count : ℕ) (nodes slices answers : List ℕ) → made ≡ unstarted number (record { key = key; state = solo (take 1 own) }) → IsCut own count nodes slices answers → IsReplayed made.number made.titled.key own (take 1 own) made slices answers

@@ -1,5 +1,5 @@
 -- What comes next of the slices and of the answers where a start that is out ran a slice.
-use Rattle.std.proofs.Common.{◌≡◌, ℕ, zero, suc, ◌+◌, ◌<◌, ◌^◌, Bool, true, false, cond, not, ◌&&◌, List, [], ◌∷◌, ◌++◌, length, drop, Option, Some, None, refl, sym, ◌∙◌, ap, subst, arith, append_assoc, append-nil}
+use Rattle.std.proofs.Common.{◌≡◌, ℕ, zero, suc, ◌+◌, ◌<◌, ◌≤◌, ◌^◌, Bool, true, false, cond, not, ◌&&◌, List, [], ◌∷◌, ◌++◌, length, drop, Option, Some, None, refl, sym, ◌∙◌, ap, subst, arith, append_assoc, append-nil}
 use Rattle.std.specs.Prelude.{flat_map, is_some, slice_get}
 use Rattle.std.specs.List.{AllByRecursion}
 use Rattle.std.proofs.lemmas.Option.{slice_get_within}
@@ -84,8 +84,8 @@ module _ (i : ℕ) (j : JobView) (slices answers : List ℕ) (b : IsBefore (Fini
       by_verdict : (w : Verdict) → v ≡ w → ComesNext (variables_through s.revisions (length s.answers)) answers (a w)
       by_verdict Satisfiable is = record { values = ran-whole b.past i b.later (model_with (Some Satisfiable) x.node) b.lawful (soon Satisfiable is); goal = tt; verdict = refl; more = flat_map answer_bytes (drop (suc (length s.answers)) whole.answers); front = front Satisfiable is }
       by_verdict (Unsatisfiable goal) is =
-          let low : goal < 2 ^ 62 = lawful-goal (b.past ++ Finished i Ran ∷ b.later) b.lawful (length s.answers) goal (next-answer b.past b.later i lease.0 lease.1 (Unsatisfiable goal) now (e ∙ ap (λ (y : Verdict). Some y) is)) in
-          record { values = tt; goal = omega (arith, low); verdict = refl; more = flat_map answer_bytes (drop (suc (length s.answers)) whole.answers); front = front (Unsatisfiable goal) is }
+          let low : (1 ≤ goal) × (goal < 2 ^ 62) = lawful-goal (b.past ++ Finished i Ran ∷ b.later) b.lawful (length s.answers) goal (next-answer b.past b.later i lease.0 lease.1 (Unsatisfiable goal) now (e ∙ ap (λ (y : Verdict). Some y) is)) in
+          record { values = tt; goal = (low.0, omega (arith, low.1)); verdict = refl; more = flat_map answer_bytes (drop (suc (length s.answers)) whole.answers); front = front (Unsatisfiable goal) is }
 
   -- where the slice ends a revision the next answer is its
   pub next-ends : next.ends ≡ true → (a : Answer) × ((slice_get whole.answers (length s.answers) ≡ Some a) × ComesNext (variables_through s.revisions (length s.answers)) answers a)
@@ -97,11 +97,11 @@ module _ (i : ℕ) (j : JobView) (slices answers : List ℕ) (b : IsBefore (Fini
       by_test false now (Some v) is q = verdict-is v now is
 
   -- what was read of it is what has to be given
-  pub next-given : (ends : Bool) (answer : Option Answer) → ends ≡ next.ends → (ends ≡ false → answer ≡ None) → (ends ≡ true → (a : Answer) → ComesNext (variables_through j.titled.state.revisions (length j.titled.state.answers)) answers a → answer ≡ Some a) → answer ≡ cond next.ends (slice_get whole.answers (length s.answers)) None
+  pub next-given : (ends : Bool) (answer : Option (Option Answer)) → ends ≡ next.ends → (ends ≡ false → answer ≡ Some None) → (ends ≡ true → (a : Answer) → ComesNext (variables_through j.titled.state.revisions (length j.titled.state.answers)) answers a → answer ≡ Some (Some a)) → answer ≡ Some (cond next.ends (slice_get whole.answers (length s.answers)) None)
   next-given ends answer same none some = by_ends next.ends refl
     where
-      by_ends : (e : Bool) → next.ends ≡ e → answer ≡ cond e (slice_get whole.answers (length s.answers)) None
+      by_ends : (e : Bool) → next.ends ≡ e → answer ≡ Some (cond e (slice_get whole.answers (length s.answers)) None)
       by_ends false is = none (same ∙ is)
       by_ends true is =
           let found = next-ends is in
-          some (same ∙ is) found.0 (subst (λ (t : SoloMachine). ComesNext (variables_through t.revisions (length t.answers)) answers found.0) (sym state-is) found.1.1) ∙ sym found.1.0
+          some (same ∙ is) found.0 (subst (λ (t : SoloMachine). ComesNext (variables_through t.revisions (length t.answers)) answers found.0) (sym state-is) found.1.1) ∙ ap (λ (o : Option Answer). Some o) (sym found.1.0)

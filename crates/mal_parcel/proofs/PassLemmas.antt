@@ -45,6 +45,28 @@ lawful-passes (Started i ∷ past) o later e lawful = absurd lawful
 lawful-passes (Finished i outcome ∷ past) o later e lawful = absurd lawful
 lawful-passes (Exchanged ∷ past) o later e lawful = absurd lawful
 
+-- behind an opening none comes again
+never-opened : (s : SoloMachine) (o : Own) → MayPass s o → is_opening o ≡ false
+never-opened s (Opened ask) may = absurd may
+never-opened s (Revised r) may = refl
+never-opened s (Reasked w) may = refl
+never-opened s Closed may = refl
+never-opened s (Volume v) may = refl
+never-opened s (Started i) may = refl
+never-opened s (Finished i outcome) may = refl
+never-opened s Exchanged may = refl
+
+pub never-again : (past : List Own) (o : Own) (later : List Own) → 1 ≤ length past → IsLawful (past ++ o ∷ later) → is_opening o ≡ false
+never-again [] o later some lawful = absurd (omega (arith, some))
+never-again (Opened ask ∷ past) o later some lawful = never-opened (solo (Opened ask ∷ past)) o (pass-at (Opened ask ∷ []) past o later lawful.1)
+never-again (Revised r ∷ past) o later some lawful = absurd lawful
+never-again (Reasked w ∷ past) o later some lawful = absurd lawful
+never-again (Closed ∷ past) o later some lawful = absurd lawful
+never-again (Volume v ∷ past) o later some lawful = absurd lawful
+never-again (Started i ∷ past) o later some lawful = absurd lawful
+never-again (Finished i outcome ∷ past) o later some lawful = absurd lawful
+never-again (Exchanged ∷ past) o later some lawful = absurd lawful
+
 -- the first own events may happen where all may
 runnable-front : (past xs ys : List Own) → IsRunnable past (xs ++ ys) → IsRunnable past xs
 runnable-front past [] ys may = tt

@@ -1,5 +1,5 @@
 -- A text of lines is read line by line.
-use Rattle.std.proofs.Common.{◌≡◌, ℕ, ◌<◌, List, [], ◌∷◌, ◌++◌, map, Ok, Result, refl, sym, ◌∙◌, ap, subst, append_assoc, append-nil}
+use Rattle.std.proofs.Common.{◌≡◌, ℕ, ◌<◌, List, [], ◌∷◌, ◌++◌, map, Ok, Err, Result, refl, sym, ◌∙◌, ap, subst, append_assoc, append-nil}
 use Rattle.std.specs.List.{AllByRecursion, join_with_byte}
 use Rattle.mal_base.specs.NumberedClause.{Line}
 use Rattle.spec_text.specs.Lines.{AreClean, IsRow, line_of}
@@ -38,6 +38,12 @@ same-read written l read line h e is =
     let same : ◌≡◌ {A = Result ProofLine Fault} (Ok read) (Ok (added l)) = sym is ∙ (ap (λ (words : List (List ℕ)). reading 0 words) e ∙ there) in
     cc
 
+pub never-refused : WrittenIsRead → (l : Line) (fault : Fault) (line : List ℕ) → IsReadable l → words_of line ≡ row l → reading 0 (words_of line) ≡ Err fault → ⊥
+never-refused written l fault line h e is =
+    let there : reading 0 (row l) ≡ Ok (added l) = (written 0 (added l) h).1 in
+    let same : ◌≡◌ {A = Result ProofLine Fault} (Err fault) (Ok (added l)) = sym is ∙ (ap (λ (words : List (List ℕ)). reading 0 words) e ∙ there) in
+    absurd (cc)
+
 -- so many of these lines were read, and the others stand in the rest
 pub record ToRead (ls done : List Line) (rest : List ℕ) : Type 0 where
   pub left : List Line
@@ -47,6 +53,16 @@ pub record ToRead (ls done : List Line) (rest : List ℕ) : Type 0 where
 
 pub read-none : WrittenIsRead → (ls : List Line) (text : List ℕ) → AllByRecursion IsReadable ls → text ≡ text_of_lines ls → ToRead ls [] text
 read-none written ls text h e = record { left = ls; whole = refl; rows = ap lines_of e ∙ lines-again written ls h; readable = h }
+
+-- a line that stands next is the text of a line that is read again
+pub line-next : WrittenIsRead → (ls done : List Line) (rest line behind : List ℕ) → lines_of rest ≡ line ∷ lines_of behind → ToRead ls done rest → (l : Line) × (IsReadable l × (words_of line ≡ row l))
+line-next written ls done rest line behind cut h = by_left h.left (sym h.rows ∙ cut) h.readable
+  where
+    by_left : (left : List Line) → map joined left ≡ line ∷ lines_of behind → AllByRecursion IsReadable left → (l : Line) × (IsReadable l × (words_of line ≡ row l))
+    by_left [] rows readable = absurd (cc)
+    by_left (l ∷ left) rows readable =
+        let first : joined l ≡ line = cc in
+        (l, (readable.0, ap words_of (sym first) ∙ words_read_again (row l) (row-clean written l readable.0)))
 
 -- one line more
 pub read-one : WrittenIsRead → (ls done next : List Line) (rest line behind : List ℕ) → lines_of rest ≡ line ∷ lines_of behind → ((l : Line) → IsReadable l → words_of line ≡ row_of (added l) → next ≡ done ++ l ∷ []) → ToRead ls done rest → ToRead ls next behind

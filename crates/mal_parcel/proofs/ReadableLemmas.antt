@@ -254,16 +254,16 @@ of-slices (d ∷ cs) (suc n) c e h = of-slices cs n c e (λ line m. h line (amon
 pub slice-readable : (own : List Own) → IsLawful own → (n : ℕ) (c : Slice) → slice_get (solo own).slices n ≡ Some c → AllByRecursion IsReadable c.lines
 slice-readable own lawful n c e = of-slices (solo own).slices n c e (λ line m. line-readable own lawful line (subst (λ (log : List Line). Among line log) (sym (logs-are-slices own)) m))
 
--- a goal has 62 bits, too
-goal-low : (ask : Terms) (own : List Own) → IsLawful (Opened ask ∷ own) → (r goal : ℕ) → slice_get (solo (Opened ask ∷ own)).answers r ≡ Some (Refuted goal) → goal < 2 ^ 62
+-- a goal is the number of a clause and has 62 bits, too
+goal-low : (ask : Terms) (own : List Own) → IsLawful (Opened ask ∷ own) → (r goal : ℕ) → slice_get (solo (Opened ask ∷ own)).answers r ≡ Some (Refuted goal) → (1 ≤ goal) × (goal < 2 ^ 62)
 goal-low ask own lawful r goal e =
     let s : SoloMachine = solo (Opened ask ∷ own) in
     let refuted : IsRefuted (take (r + 1) s.revisions) s.log goal = (runnable-kept (Opened ask ∷ own) (lawful-is_once ask own lawful).runnable).derives.refuted r goal e in
     let there : Among refuted.line s.log = subst (λ (log : List Line). Among refuted.line log) (sym refuted.is) (among-left refuted.front refuted.more refuted.line refuted.among) in
-    subst (λ (n : ℕ). n < 2 ^ 62) refuted.number (line-low ask own lawful refuted.line there)
+    subst (λ (n : ℕ). (1 ≤ n) × (n < 2 ^ 62)) refuted.number ((line-readable (Opened ask ∷ own) lawful refuted.line there).is_id.0, line-low ask own lawful refuted.line there)
 
 -- the answers of a lawful job: 8 bytes hold a goal, and a model has a value for each variable by then
-pub lawful-goal : (own : List Own) → IsLawful own → (r goal : ℕ) → slice_get (solo own).answers r ≡ Some (Refuted goal) → goal < 2 ^ 62
+pub lawful-goal : (own : List Own) → IsLawful own → (r goal : ℕ) → slice_get (solo own).answers r ≡ Some (Refuted goal) → (1 ≤ goal) × (goal < 2 ^ 62)
 lawful-goal [] lawful r goal e = absurd lawful
 lawful-goal (Opened ask ∷ own) lawful r goal e = goal-low ask own lawful r goal e
 lawful-goal (Revised p ∷ own) lawful r goal e = absurd lawful

@@ -3,15 +3,14 @@ use Rattle.std.proofs.Common.{◌≡◌, ℕ, false, List, [], ◌∷◌, ◌++�
 use Rattle.std.specs.Prelude.{flat_map, slice_set}
 use Rattle.std.proofs.lemmas.List.{drop_at}
 use Rattle.mal_base.specs.declared.answer.Answer.{Answer}
-use Rattle.spec_job.specs.Counts.{is_opening}
 use Rattle.spec_job.specs.KeyedJob.{stepped}
 use Rattle.spec_job.specs.Lawful.{MayPass}
-use Rattle.spec_job.specs.SoloMachine.{Own, Started, SoloMachine, solo}
+use Rattle.spec_job.specs.SoloMachine.{Own, Opened, Revised, Reasked, Closed, Volume, Started, Finished, Exchanged, SoloMachine, solo}
 use Rattle.spec_job.specs.Viewed.{JobView, unstarted, and_own, and_start}
 use Rattle.spec_job.proofs.PushLemmas.{solo-push}
 use Rattle.spec_parcel.specs.Packed.{answer_bytes, listed, slice_bytes}
-use Rattle.mal_parcel.specs.Replaying.{IsBefore, IsReplayed, is_ran, slices_left, answers_left}
-use Rattle.mal_parcel.proofs.PassLemmas.{lawful-passes, other-slices, slices-next, answers-next, set-same}
+use Rattle.mal_parcel.specs.Replaying.{IsBefore, IsLow, IsReplayed, is_ran, slices_left, answers_left}
+use Rattle.mal_parcel.proofs.PassLemmas.{lawful-passes, out-low, runnable-past, other-slices, slices-next, answers-next, set-same}
 
 -- a start without a number leaves the numbers of starts
 pub start-unnumbered : (v : JobView) (i : ℕ) → v.starts ≡ replicate 64 0 → and_start v i 0 ≡ and_own v (Started i)
@@ -28,8 +27,22 @@ module _ (o : Own) (j : JobView) (slices answers : List ℕ) (b : IsBefore o j s
   state-is = ap (λ (v : JobView). v.titled.state) b.replayed.job
 
   -- the event may come
-  pub before-passes : is_opening o ≡ false → MayPass j.titled.state o
-  before-passes e = rw state-is (lawful-passes b.past o b.later e b.lawful)
+  pub before-passes : MayPass j.titled.state o
+  before-passes = rw state-is (lawful-passes b.past o b.later b.other b.lawful)
+
+  -- a start that ends is that of a node
+  pub before-low : IsLow o
+  before-low = low-by o (lawful-passes b.past o b.later b.other b.lawful)
+    where
+      low-by : (e : Own) → MayPass (solo b.past) e → IsLow e
+      low-by (Opened ask) may = tt
+      low-by (Revised r) may = tt
+      low-by (Reasked w) may = tt
+      low-by Closed may = tt
+      low-by (Volume v) may = tt
+      low-by (Started i) may = tt
+      low-by (Finished i outcome) may = out-low b.past i (runnable-past b.past o b.later b.lawful) may
+      low-by Exchanged may = tt
 
   pub before-starts : j.starts ≡ replicate 64 0
   before-starts = ap (λ (v : JobView). v.starts) b.replayed.job

@@ -12,6 +12,7 @@ use Rattle.mal_parcel.specs.declared.owned.OwnEvent.{OwnEvent}
 use Rattle.mal_parcel.specs.Owned.{own_of, owned}
 use Rattle.mal_parcel.specs.Parcelled.{IsReadBack}
 use Rattle.mal_parcel.specs.Replaying.{IsBefore, IsNext, IsReplayed, IsToWake}
+use Rattle.mal_parcel.proofs.PassLemmas.{never-again}
 
 -- what stands at a place parts a list
 parted : {X : Type 0} (xs : List X) (n : ℕ) (x : X) → slice_get xs n ≡ Some x → take n xs ++ x ∷ drop (suc n) xs ≡ xs
@@ -24,23 +25,28 @@ fronted {X} [] n x e = absurd (cc)
 fronted {X} (y ∷ ys) zero x e = let same : y ≡ x = cc in ap (λ (z : X). z ∷ []) (sym same)
 fronted {X} (y ∷ ys) (suc n) x e = ap (λ (zs : List X). y ∷ zs) (fronted ys n x e)
 
-owned-get : (events : List OwnEvent) (n : ℕ) (e : OwnEvent) → slice_get events n ≡ Some e → slice_get (owned events) n ≡ Some (own_of e)
+pub owned-get : (events : List OwnEvent) (n : ℕ) (e : OwnEvent) → slice_get events n ≡ Some e → slice_get (owned events) n ≡ Some (own_of e)
 owned-get [] n e is = absurd (cc)
 owned-get (x ∷ xs) zero e is = let same : x ≡ e = cc in ap (λ (y : OwnEvent). Some (own_of y)) same
 owned-get (x ∷ xs) (suc n) e is = owned-get xs n e is
+
+pub taken-some : (os : List Own) (n : ℕ) (o : Own) → 1 ≤ n → slice_get os n ≡ Some o → 1 ≤ length (take n os)
+taken-some [] n o some e = absurd (cc)
+taken-some (x ∷ xs) zero o some e = absurd (omega (arith, some))
+taken-some (x ∷ xs) (suc n) o some e = omega arith
 
 -- what is read of a place stands there
 pub got : (events : List OwnEvent) (n : ℕ) (e : OwnEvent) → n < length events → e ≡ get_or events n e → slice_get events n ≡ Some e
 got events n e low is = slice_get-get_or events n e low ∙ ap (λ (x : OwnEvent). Some x) (sym is)
 
-module _ (number : ℕ) (key : Key) (events : List OwnEvent) (n : ℕ) (e : OwnEvent) (at : slice_get events n ≡ Some e) (lawful : IsLawful (owned events)) (j : JobView) (slices answers : List ℕ) (h : IsReplayed number key (owned events) (take n (owned events)) j slices answers) where
+module _ (number : ℕ) (key : Key) (events : List OwnEvent) (n : ℕ) (e : OwnEvent) (at : slice_get events n ≡ Some e) (some : 1 ≤ n) (lawful : IsLawful (owned events)) (j : JobView) (slices answers : List ℕ) (h : IsReplayed number key (owned events) (take n (owned events)) j slices answers) where
   -- the own events in three parts
   pub whole-at : take n (owned events) ++ own_of e ∷ drop (suc n) (owned events) ≡ owned events
   whole-at = parted (owned events) n (own_of e) (owned-get events n e at)
 
   -- a job stands before the event at this place
   abbrev pub before-at : IsBefore (own_of e) j slices answers
-  before-at = record { number = number; key = key; past = take n (owned events); later = drop (suc n) (owned events); lawful = subst IsLawful (sym whole-at) lawful; replayed = subst (λ (os : List Own). IsReplayed number key os (take n (owned events)) j slices answers) (sym whole-at) h }
+  before-at = record { number = number; key = key; past = take n (owned events); later = drop (suc n) (owned events); other = never-again (take n (owned events)) (own_of e) (drop (suc n) (owned events)) (taken-some (owned events) n (own_of e) some (owned-get events n e at)) (subst IsLawful (sym whole-at) lawful); lawful = subst IsLawful (sym whole-at) lawful; replayed = subst (λ (os : List Own). IsReplayed number key os (take n (owned events)) j slices answers) (sym whole-at) h }
 
   -- and then behind it
   pub behind-at : (next : JobView) (ss rest : List ℕ) → ((b : IsBefore (own_of e) j slices answers) → IsReplayed b.number b.key (b.past ++ own_of e ∷ b.later) (b.past ++ own_of e ∷ []) next ss rest) → IsReplayed number key (owned events) (take (n + 1) (owned events)) next ss rest

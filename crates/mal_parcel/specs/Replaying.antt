@@ -10,6 +10,7 @@ use Rattle.spec_proof.specs.Log.{added}
 use Rattle.spec_lrat.specs.Laws.{IsLine}
 use Rattle.spec_lrat.specs.Written.{row_of}
 use Rattle.mal_freeze.specs.Spelling.{spelled}
+use Rattle.spec_job.specs.Counts.{is_opening}
 use Rattle.spec_job.specs.KeyedJob.{Key}
 use Rattle.spec_job.specs.Lawful.{IsLawful}
 use Rattle.spec_job.specs.SoloMachine.{Own, Finished, Slice, SoloMachine, solo}
@@ -29,6 +30,10 @@ text_of_lines lines = flat_map (λ l. line_of (row_of (added l))) lines
 -- at the front stands a slice: whether it ends a revision and the text of its lines, and this behind them
 abbrev pub found_told : Bool → List ℕ → List ℕ → Option (Bool × (List ℕ × List ℕ))
 found_told ends text more = Some (ends, (text, more))
+
+-- a slice stands at the front: its lines and whether it ends a revision, and this behind it
+abbrev pub found_slice : Slice → List ℕ → Option (List Line × (Bool × List ℕ))
+found_slice c more = Some (c.lines, (c.ends, more))
 
 -- at the front stand the index and the image of a node, and this behind them
 abbrev pub found_placed : ℕ → List ℕ → List ℕ → Option (ℕ × (List ℕ × List ℕ))
@@ -89,11 +94,17 @@ pub record ComesNext (variables : ℕ) (bytes : List ℕ) (answer : Answer) : Ty
   pub more : List ℕ
   pub front : bytes ≡ answer_bytes answer ++ more
 
--- a job stands before this one of lawful own events
+-- the index of a start that ends is that of a node
+abbrev pub IsLow : Own → Type 0
+IsLow (Finished i outcome) = i ≤ 63
+IsLow event = Unit {0}
+
+-- a job stands before this one of lawful own events, which is not their opening
 pub record IsBefore (event : Own) (j : JobView) (slices answers : List ℕ) : Type 0 where
   pub number : ℕ
   pub key : Key
   pub past : List Own
   pub later : List Own
+  pub other : is_opening event ≡ false
   pub lawful : IsLawful (past ++ event ∷ later)
   pub replayed : IsReplayed number key (past ++ event ∷ later) past j slices answers

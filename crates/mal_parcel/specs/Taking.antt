@@ -1,5 +1,5 @@
 -- What stands at the front of bytes, and what is behind it.
-use Rattle.std.specs.Prelude.{◌≡◌, ℕ, ◌<◌, ◌^◌, Bool, List, take, drop, length, Option, Some, None, option_map, nat_lt, if◌then◌else◌}
+use Rattle.std.specs.Prelude.{◌≡◌, ℕ, ◌<◌, ◌≤◌, ◌^◌, Bool, List, take, drop, length, Option, Some, None, option_map, nat_lt, if◌then◌else◌}
 use Rattle.std.specs.Int.{w64, from_be_bytes}
 use Rattle.mal_base.specs.declared.answer.Answer.{Answer}
 use Rattle.mal_base.specs.declared.answer.Answer.TheVariants.{Satisfied, Refuted, Spent, OutOfStarts}
@@ -34,9 +34,9 @@ abbrev pub HasValues : ℕ → Answer → Type 0
 HasValues variables (Satisfied model) = length model ≡ variables
 HasValues variables answer = Unit {0}
 
--- 8 bytes hold the goal of an answer that refutes
+-- the goal of an answer that refutes is the number of a clause, which 8 bytes hold
 abbrev pub HasGoal : Answer → Type 0
-HasGoal (Refuted goal) = goal < 2 ^ 64
+HasGoal (Refuted goal) = (1 ≤ goal) × (goal < 2 ^ 64)
 HasGoal answer = Unit {0}
 
 -- an answer that is a verdict

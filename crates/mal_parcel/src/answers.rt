@@ -6,7 +6,7 @@ ghost use Rattle.mal_base.specs.declared.answer.Answer.TheVariants.{Satisfied, R
 ghost use Rattle.std.specs.Int.{w64};
 ghost use Rattle.mal_freeze.specs.Spelling.{phase_code, spelled};
 ghost use Rattle.spec_parcel.specs.Packed.{answer_bytes, listed};
-ghost use Rattle.mal_parcel.specs.Taking.{HasGoal, HasValues, verdict_of};
+ghost use Rattle.mal_parcel.specs.Taking.{HasGoal, HasValues, Takes, found, verdict_of};
 
 use crate::sized::{put_length, put_number, take_number};
 use mal_base::{Answer, ClauseId, Values};
@@ -74,22 +74,22 @@ pub fn phase_code(value: bool) -> u8
 }
 
 /// The answer at the front, where it is a verdict, of a job with so many variables by then, and what stands behind it.
-/// Bytes that no answer begins are want of memory.
+/// None only where no answer begins the bytes.
 pub fn take_answer(
     alloc: Global,
     variables: usize,
     bytes: &[u8],
-) -> Result<(Option<Answer>, &[u8]), AllocError>
+) -> Result<Option<(Option<Answer>, &[u8])>, AllocError>
     requires { variables ≤ 65536 }
     ensures { (a : Answer) (more : List ℕ) → HasValues variables a → HasGoal a → bytes.now ≡ answer_bytes a ++ more
-        → IfOk result (λ x. (x.0 ≡ verdict_of a) × (x.1.now ≡ more)) }
+        → IfOk result (λ o. Takes (λ x. (x.0, x.1.now)) o (found (verdict_of a) more)) }
 {
     match bytes {
         [1, rest @ ..] => take_model(alloc, variables, rest),
-        [2, rest @ ..] => take_goal(rest),
-        [3, rest @ ..] => Ok((None, rest)),
-        [4, rest @ ..] => Ok((None, rest)),
-        _ => Err(AllocError),
+        [2, rest @ ..] => Ok(take_goal(rest)),
+        [3, rest @ ..] => Ok(Some((None, rest))),
+        [4, rest @ ..] => Ok(Some((None, rest))),
+        _ => Ok(None),
     }
 }
 
@@ -98,18 +98,18 @@ fn take_model(
     alloc: Global,
     variables: usize,
     bytes: &[u8],
-) -> Result<(Option<Answer>, &[u8]), AllocError>
+) -> Result<Option<(Option<Answer>, &[u8])>, AllocError>
     requires { variables ≤ 65536 }
     ensures { (model : List Bool) (more : List ℕ) → length model ≡ variables
         → bytes.now ≡ map phase_code model ++ more
-        → IfOk result (λ x. (x.0 ≡ verdict_of (Satisfied model)) × (x.1.now ≡ more)) }
+        → IfOk result (λ o. Takes (λ x. (x.0, x.1.now)) o (found (verdict_of (Satisfied model)) more)) }
 {
     if bytes.len() < variables {
-        return Err(AllocError);
+        return Ok(None);
     }
     let (front, rest) = bytes.split_at(variables);
     let values = values(alloc, front)?;
-    Ok((Some(Answer::Satisfied(Values::of(values))), rest))
+    Ok(Some((Some(Answer::Satisfied(Values::of(values))), rest)))
 }
 
 /// The values of these bytes.
@@ -134,15 +134,11 @@ fn ones(alloc: Global, bytes: &[u8]) -> Result<Vec<bool>, AllocError>
 }
 
 /// The goal of 8 bytes at the front, and what stands behind it.
-fn take_goal(bytes: &[u8]) -> Result<(Option<Answer>, &[u8]), AllocError>
-    ensures { (goal : ℕ) (more : List ℕ) → goal < 2 ^ 64 → bytes.now ≡ spelled w64 goal ++ more
-        → IfOk result (λ x. (x.0 ≡ verdict_of (Refuted goal)) × (x.1.now ≡ more)) }
+fn take_goal(bytes: &[u8]) -> Option<(Option<Answer>, &[u8])>
+    ensures { (goal : ℕ) (more : List ℕ) → 1 ≤ goal → goal < 2 ^ 64 → bytes.now ≡ spelled w64 goal ++ more
+        → Takes (λ x. (x.0, x.1.now)) result (found (verdict_of (Refuted goal)) more) }
 {
-    let Some((number, rest)) = take_number(bytes) else {
-        return Err(AllocError);
-    };
-    match ClauseId::of(number) {
-        None => Err(AllocError),
-        Some(goal) => Ok((Some(Answer::Refuted { goal }), rest)),
-    }
+    let (number, rest) = take_number(bytes)?;
+    let goal = ClauseId::of(number)?;
+    Some((Some(Answer::Refuted { goal }), rest))
 }

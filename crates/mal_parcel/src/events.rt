@@ -8,7 +8,7 @@ ghost use Rattle.mal_parcel.specs.Owned.{own_of, owned};
 
 use crate::owned::OwnEvent;
 use crate::sized::put_sized;
-use mal_base::Name;
+use mal_base::{Name, grown};
 use mal_history::{Event, Share, Shares, append_event};
 use std::alloc::{AllocError, Global};
 
@@ -69,10 +69,7 @@ fn revisions_after(number: u32, event: &OwnEvent) -> Result<u32, AllocError>
     ensures { IfOk result (λ n. n ≡ revisions_after number (own_of event.now)) }
 {
     match event {
-        OwnEvent::Revised(_) => match number.checked_add(1) {
-            None => Err(AllocError),
-            Some(after) => Ok(after),
-        },
+        OwnEvent::Revised(_) => Ok(grown(number as usize, 1, u32::MAX as usize)? as u32),
         _ => Ok(number),
     }
 }

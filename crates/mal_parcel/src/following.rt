@@ -5,10 +5,10 @@ ghost use Rattle.std.specs.Prelude.{◌≡◌, ℕ, [], ◌∷◌, ◌++◌, ◌
 ghost use Rattle.std.specs.List.{AllByRecursion};
 ghost use Rattle.mal_base.specs.declared.answer.Answer.{Answer};
 ghost use Rattle.mal_base.specs.declared.verdict.Outcome.TheVariants.{Ran};
-ghost use Rattle.spec_job.specs.{Counts.{is_opening}, Lawful.{MayGrow, MayPass}, Models.{variables_of, variables_through}, SoloMachine.{Finished, Revised, Slice, Started, place_at, solo, startable}, Viewed.{and_own}};
+ghost use Rattle.spec_job.specs.{Lawful.{MayGrow, MayPass}, Models.{variables_of, variables_through}, SoloMachine.{Finished, Revised, Slice, Started, place_at, solo, startable}, Viewed.{and_own}};
 ghost use Rattle.spec_parcel.specs.Packed.{answer_bytes, slice_bytes};
 ghost use Rattle.mal_job.specs.Viewed.{shared};
-ghost use Rattle.mal_parcel.specs.{Owned.{own_of}, Replaying.{ComesNext, IsBefore, IsReadable, IsReplayed, is_ran, slices_left}};
+ghost use Rattle.mal_parcel.specs.{Owned.{own_of}, Replaying.{ComesNext, IsBefore, IsLow, IsReadable, IsReplayed, found_slice, is_ran, slices_left}, Taking.{Takes}};
 
 use crate::answers::take_answer;
 use crate::owned::OwnEvent;
@@ -35,20 +35,16 @@ pub fn again<'a>(
 {
     let known = job.answers().len();
     let slices = enter(alloc, job, event, slices, answers)?;
-    let answers = behind_new(job, known, answers)?;
+    let answers = behind_new(job, known, answers);
     Ok((slices, answers))
 }
 
 /// What is left of the bytes of a job's answers behind those from this one on.
-fn behind_new<'a>(job: &Job, known: usize, answers: &'a [u8]) -> Result<&'a [u8], AllocError>
-    ensures { IfOk result
-        (λ r. r.now ≡ drop (length (flat_map answer_bytes (drop known job.now.titled.state.answers))) answers.now) }
+fn behind_new<'a>(job: &Job, known: usize, answers: &'a [u8]) -> &'a [u8]
+    ensures { result.now ≡ drop (length (flat_map answer_bytes (drop known job.now.titled.state.answers))) answers.now }
 {
     let given = job.answers();
-    if given.len() < known {
-        return Err(AllocError);
-    }
-    let (_, new) = given.split_at(known);
+    let (_, new) = given.split_at(known.min(given.len()));
     behind_answers(answers, new)
 }
 
@@ -106,57 +102,62 @@ fn follow_next<'a>(
     ensures slices { IfOk result (λ r. (b : IsBefore (Finished index Ran) job.old slices.now answers.now)
         → r.now ≡ slices_left (solo (b.past ++ Finished index Ran ∷ b.later)) (solo (b.past ++ Finished index Ran ∷ []))) }
 {
-    let (lines, ends, rest) = take_slice(alloc, slices)?;
-    let answer = next_answer(alloc, job, ends, answers)?;
+    let Some((lines, ends, rest)) = take_slice(alloc, slices)? else {
+        unreachable!();
+    };
+    let Some(answer) = next_answer(alloc, job, ends, answers)? else {
+        unreachable!();
+    };
     job.follow(index, lines, answer)?;
     Ok(rest)
 }
 
-/// The lines of the slice at the front, whether it ends a revision, and what stands behind it.
-fn take_slice(alloc: Global, bytes: &[u8]) -> Result<(Lines, bool, &[u8]), AllocError>
+/// The lines of the slice at the front, whether it ends a revision, and what stands behind it. None only where no slice
+/// begins the bytes.
+fn take_slice(alloc: Global, bytes: &[u8]) -> Result<Option<(Lines, bool, &[u8])>, AllocError>
     ensures { (c : Slice) (more : List ℕ) → AllByRecursion IsReadable c.lines → bytes.now ≡ slice_bytes c ++ more
-        → IfOk result (λ x. (x.0.lines ≡ c.lines) × (x.1 ≡ c.ends) × (x.2.now ≡ more)) }
+        → IfOk result (λ o. Takes (λ x. (x.0.lines, (x.1, x.2.now))) o (found_slice c more)) }
 {
     let Some((ends, text, rest)) = take_told(bytes) else {
-        return Err(AllocError);
+        return Ok(None);
     };
-    let lines = lines_of(alloc, text)?;
-    Ok((lines, ends, rest))
+    match lines_of(alloc, text)? {
+        None => Ok(None),
+        Some(lines) => Ok(Some((lines, ends, rest))),
+    }
 }
 
-/// The next answer of a job, where a slice ends a revision.
+/// The next answer of a job, where a slice ends a revision. The outer option is None only where no verdict begins the
+/// bytes.
 fn next_answer(
     alloc: Global,
     job: &Job,
     ends: bool,
     answers: &[u8],
-) -> Result<Option<Answer>, AllocError>
-    ensures none { ends ≡ false → IfOk result (λ o. o ≡ None) }
+) -> Result<Option<Option<Answer>>, AllocError>
+    ensures none { ends ≡ false → IfOk result (λ o. o ≡ Some None) }
     ensures some { ends ≡ true → (a : Answer)
         → ComesNext (variables_through job.now.titled.state.revisions (length job.now.titled.state.answers)) answers.now a
-        → IfOk result (λ o. o ≡ Some a) }
+        → IfOk result (λ o. o ≡ Some (Some a)) }
 {
     if !ends {
-        return Ok(None);
+        return Ok(Some(None));
     }
-    let variables = variables_now(job)?;
-    let (answer, _) = take_answer(alloc, variables, answers)?;
-    Ok(answer)
+    match take_answer(alloc, variables_now(job), answers)? {
+        None => Ok(None),
+        Some((answer, _)) => Ok(Some(answer)),
+    }
 }
 
 /// How many variables a job has at the revision that is answered next.
-fn variables_now(job: &Job) -> Result<usize, AllocError>
-    ensures value { IfOk result
-        (λ n. n ≡ variables_through job.now.titled.state.revisions (length job.now.titled.state.answers)) }
-    ensures bound { IfOk result (λ n. n ≤ 65536) }
+fn variables_now(job: &Job) -> usize
+    ensures value { result ≡ variables_through job.now.titled.state.revisions (length job.now.titled.state.answers) }
+    ensures bound { result ≤ 65536 }
 {
     let revisions = job.revisions();
     let end = job.answers().len() + 1;
-    if revisions.len() < end {
-        return Err(AllocError);
-    }
-    let (posted, _) = revisions.split_at(end);
-    Ok(variables_of(posted) as usize)
+    let (posted, _) = revisions.split_at(end.min(revisions.len()));
+    variables_of(posted) as usize
 }
 
 /// How many variables these revisions have: the most that one of them has.
@@ -173,12 +174,14 @@ fn variables_of(revisions: &[Arc<Revision>]) -> u32
 
 /// A job takes up an own event that runs no slice.
 fn take_up(job: &mut Job, event: &OwnEvent) -> Result<(), AllocError>
-    requires may { is_opening (own_of event.now) ≡ false → MayPass job.old.titled.state (own_of event.now) }
+    requires other { is_ran (own_of event.now) ≡ false }
+    requires may { MayPass job.old.titled.state (own_of event.now) }
+    requires low { IsLow (own_of event.now) }
     requires starts { job.old.starts ≡ replicate 64 0 }
     ensures { OnOk result (job.new ≡ and_own job.old (own_of event.now)) }
 {
     match event {
-        OwnEvent::Opened(_) => Err(AllocError),
+        OwnEvent::Opened(_) => unreachable!(),
         OwnEvent::Revised(revision) => revise(job, revision),
         OwnEvent::Reasked(weight) => {
             job.reask(*weight);
@@ -193,7 +196,10 @@ fn take_up(job: &mut Job, event: &OwnEvent) -> Result<(), AllocError>
             Ok(())
         }
         OwnEvent::Started(index) => start(job, *index),
-        OwnEvent::Finished(index, outcome) => finish(job, *index, *outcome),
+        OwnEvent::Finished(index, outcome) => {
+            finish(job, *index, *outcome);
+            Ok(())
+        }
         OwnEvent::Exchanged => job.exchange(),
     }
 }
@@ -218,22 +224,15 @@ fn start(job: &mut Job, index: u32) -> Result<(), AllocError>
 }
 
 /// Ends a start that is out at this index and ran no slice.
-fn finish(job: &mut Job, index: u32, outcome: Outcome) -> Result<(), AllocError>
-    requires { is_some (place_at job.old.titled.state index).out ≡ true }
-    ensures { OnOk result (job.new ≡ and_own job.old (Finished index outcome)) }
+fn finish(job: &mut Job, index: u32, outcome: Outcome)
+    requires other { is_ran (Finished index outcome) ≡ false }
+    requires out { is_some (place_at job.old.titled.state index).out ≡ true }
+    requires low { index ≤ 63 }
+    ensures { job.new ≡ and_own job.old (Finished index outcome) }
 {
     match outcome {
-        Outcome::Ran => Err(AllocError),
-        Outcome::Starved => {
-            job.starve(index);
-            Ok(())
-        }
-        Outcome::Lost => {
-            if index > 63 {
-                return Err(AllocError);
-            }
-            job.finish(index, None);
-            Ok(())
-        }
+        Outcome::Ran => unreachable!(),
+        Outcome::Starved => job.starve(index),
+        Outcome::Lost => job.finish(index, None),
     }
 }

@@ -1,6 +1,6 @@
 //! What stands behind known slices and known answers.
 
-ghost use Rattle.std.specs.Prelude.{◌≡◌, ℕ, ◌∷◌, ◌++◌, Bool, List, drop, flat_map, length, Some, IfOk};
+ghost use Rattle.std.specs.Prelude.{◌≡◌, ℕ, ◌∷◌, ◌++◌, Bool, List, drop, flat_map, length, Some};
 ghost use Rattle.std.specs.Int.{w64};
 ghost use Rattle.mal_freeze.specs.Spelling.{phase_code, spelled};
 ghost use Rattle.spec_job.specs.SoloMachine.{Slice};
@@ -10,7 +10,6 @@ ghost use Rattle.mal_parcel.specs.{Replaying.{found_told}, Taking.{Takes}};
 use crate::sized::take_sized;
 use crate::slices::take_ends;
 use mal_base::Answer;
-use std::alloc::AllocError;
 
 /// Whether the slice at the front ends a revision, the text of its lines, and what stands behind it.
 pub fn take_told(bytes: &[u8]) -> Option<(bool, &[u8], &[u8])>
@@ -76,27 +75,23 @@ pub fn behind_nodes(count: u64, bytes: &[u8]) -> Option<&[u8]>
     Some(rest)
 }
 
-/// What stands behind the bytes of these answers. Fewer bytes are want of memory.
-pub fn behind_answers<'a>(bytes: &'a [u8], answers: &[Answer]) -> Result<&'a [u8], AllocError>
-    ensures { IfOk result (λ r. r.now ≡ drop (length (flat_map answer_bytes answers.now)) bytes.now) }
+/// What stands behind the bytes of these answers, none where there are fewer.
+pub fn behind_answers<'a>(bytes: &'a [u8], answers: &[Answer]) -> &'a [u8]
+    ensures { result.now ≡ drop (length (flat_map answer_bytes answers.now)) bytes.now }
 {
     let mut rest = bytes;
     for answer in answers {
-        rest = behind_answer(rest, answer)?;
+        rest = behind_answer(rest, answer);
     }
-    Ok(rest)
+    rest
 }
 
 /// What stands behind the bytes of an answer.
-fn behind_answer<'a>(bytes: &'a [u8], answer: &Answer) -> Result<&'a [u8], AllocError>
-    ensures { IfOk result (λ r. r.now ≡ drop (length (answer_bytes answer.now)) bytes.now) }
+fn behind_answer<'a>(bytes: &'a [u8], answer: &Answer) -> &'a [u8]
+    ensures { result.now ≡ drop (length (answer_bytes answer.now)) bytes.now }
 {
-    let width = width(answer);
-    if bytes.len() < width {
-        return Err(AllocError);
-    }
-    let (_, rest) = bytes.split_at(width);
-    Ok(rest)
+    let (_, rest) = bytes.split_at(width(answer).min(bytes.len()));
+    rest
 }
 
 /// How many bytes an answer takes.

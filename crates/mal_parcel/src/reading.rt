@@ -1,65 +1,77 @@
 //! Reading the lines of a slice, which are known.
 
-ghost use Rattle.std.specs.Prelude.{◌≡◌, [], ◌∷◌, ◌++◌, List, IfOk, OnOk};
+ghost use Rattle.std.specs.Prelude.{◌≡◌, [], ◌∷◌, ◌++◌, List, true, Some, IfOk};
 ghost use Rattle.std.specs.List.{AllByRecursion};
 ghost use Rattle.mal_base.specs.NumberedClause as numbered;
 ghost use Rattle.spec_text.specs.Inputs.{words_of};
 ghost use Rattle.spec_proof.specs.Log.{added};
 ghost use Rattle.spec_lrat.specs.Written.{row_of};
 ghost use Rattle.mal_lrat.specs.LineView.{seen};
-ghost use Rattle.mal_parcel.specs.Replaying.{IsReadable, text_of_lines};
+ghost use Rattle.mal_parcel.specs.{Replaying.{IsReadable, text_of_lines}, Taking.{Takes}};
 
 use mal_base::{ClauseId, Lines, Lit};
-use mal_lrat::{Line, read_line};
+use mal_lrat::{Line, LineFault, read_line};
 use mal_text::first_line;
 use std::alloc::{AllocError, Global};
 
-/// The lines of this text. Bytes that are no text of lines are want of memory.
-pub fn lines_of(alloc: Global, text: &[u8]) -> Result<Lines, AllocError>
+/// The lines of this text. None only where it is no text of lines.
+pub fn lines_of(alloc: Global, text: &[u8]) -> Result<Option<Lines>, AllocError>
     ensures { (ls : List numbered.Line) → AllByRecursion IsReadable ls → text.now ≡ text_of_lines ls
-        → IfOk result (λ v. v.lines ≡ ls) }
+        → IfOk result (λ o. Takes (λ v. v.lines) o (Some ls)) }
 {
     spec_lrat::written_is_read();
     let mut lines = Lines::new(alloc);
     let mut rest = text;
     while let Some((line, behind)) = first_line(rest) {
-        put_line(alloc, &mut lines, line)?;
+        if !put_line(alloc, &mut lines, line)? {
+            return Ok(None);
+        }
         rest = behind;
     }
-    Ok(lines)
+    Ok(Some(lines))
 }
 
-/// Puts the line that a text without line end spells behind the others.
-fn put_line(alloc: Global, lines: &mut Lines, line: &[u8]) -> Result<(), AllocError>
+/// Puts the line that a text without line end spells behind the others. Answers whether it is one of a slice.
+fn put_line(alloc: Global, lines: &mut Lines, line: &[u8]) -> Result<bool, AllocError>
     ensures { (l : numbered.Line) → IsReadable l → words_of line.now ≡ row_of (added l)
-        → OnOk result (lines.new.lines ≡ lines.old.lines ++ l ∷ []) }
+        → IfOk result (λ b. (b ≡ true) × (lines.new.lines ≡ lines.old.lines ++ l ∷ [])) }
 {
     spec_lrat::written_is_read();
     match read_line(alloc, line, 0) {
-        Err(_) => Err(AllocError),
         Ok(read) => put_read(lines, &read),
+        Err(LineFault::OutOfMemory) => Err(AllocError),
+        Err(LineFault::BadNumber) => Ok(false),
+        Err(LineFault::MissingZero) => Ok(false),
+        Err(LineFault::IdNotRising { .. }) => Ok(false),
+        Err(LineFault::NegativeHint) => Ok(false),
     }
 }
 
 /// Puts a line that was read behind the others. A deletion and a tautology are no lines of a slice.
-fn put_read(lines: &mut Lines, read: &Line) -> Result<(), AllocError>
-    ensures { (l : numbered.Line) → seen read.now ≡ added l → OnOk result (lines.new.lines ≡ lines.old.lines ++ l ∷ []) }
+fn put_read(lines: &mut Lines, read: &Line) -> Result<bool, AllocError>
+    ensures { (l : numbered.Line) → seen read.now ≡ added l
+        → IfOk result (λ b. (b ≡ true) × (lines.new.lines ≡ lines.old.lines ++ l ∷ [])) }
 {
     match read {
-        Line::Delete { .. } => Err(AllocError),
+        Line::Delete { .. } => Ok(false),
         Line::Add { id, clause, hints } => match clause {
-            None => Err(AllocError),
+            None => Ok(false),
             Some(clause) => put(lines, *id, clause.lits(), hints.as_slice()),
         },
     }
 }
 
 /// Puts a line behind the others.
-fn put(lines: &mut Lines, id: ClauseId, lits: &[Lit], hints: &[ClauseId]) -> Result<(), AllocError>
-    ensures { OnOk result
-        (lines.new.lines ≡ lines.old.lines ++ record { id = id; lits = lits.now; hints = hints.now } ∷ []) }
+fn put(
+    lines: &mut Lines,
+    id: ClauseId,
+    lits: &[Lit],
+    hints: &[ClauseId],
+) -> Result<bool, AllocError>
+    ensures { IfOk result (λ b. (b ≡ true)
+        × (lines.new.lines ≡ lines.old.lines ++ record { id = id; lits = lits.now; hints = hints.now } ∷ [])) }
 {
     lines.reserve(1, lits.len(), hints.len())?;
     lines.push_reserved(id, lits, hints);
-    Ok(())
+    Ok(true)
 }

@@ -11,8 +11,8 @@ use mal_revision::Revision;
 use std::alloc::{AllocError, Global};
 
 /// The name of these bytes.
-fn name(alloc: Global, text: &[u8]) -> Option<Name> {
-    Name::of(alloc, text).ok()?
+fn name(text: &[u8]) -> Option<Name> {
+    Name::of(text)
 }
 
 /// The own events of a job of which one start was lost.
@@ -30,8 +30,8 @@ fn events(alloc: Global) -> Option<Vec<OwnEvent>> {
 
 /// Whether this is the text of those events, of the job p of the tenant a, with nothing behind it.
 fn is_text(alloc: Global, known: &[u8]) -> Option<bool> {
-    let tenant = name(alloc, b"a")?;
-    let job = name(alloc, b"p")?;
+    let tenant = name(b"a")?;
+    let job = name(b"p")?;
     let events = events(alloc)?;
     let mut out = Vec::new(alloc);
     put_events(alloc, &mut out, tenant, job, events.as_slice()).ok()?;
@@ -51,7 +51,7 @@ fn opened(alloc: Global) -> Option<Parcel> {
     let ask = Ask::of(1, 1, 4)?;
     // For the proof.
     let _ = ask.priority();
-    let job = Job::fresh(alloc, 1, name(alloc, b"a")?, name(alloc, b"p")?, ask).ok()?;
+    let job = Job::fresh(alloc, 1, name(b"a")?, name(b"p")?, ask).ok()?;
     let mut own = Owned::new(alloc);
     own.push(OwnEvent::Opened(ask)).ok()?;
     let mut scratch = Scratch::new(alloc);
@@ -127,7 +127,7 @@ fn are_closed(alloc: Global, known: &[u8]) -> Option<bool> {
         return None;
     }
     let ask = Ask::of(1, 1, 4)?;
-    let parcel = closed(alloc, name(alloc, b"a")?, name(alloc, b"p")?, ask, revision).ok()?;
+    let parcel = closed(alloc, name(b"a")?, name(b"p")?, ask, revision).ok()?;
     Some(parcel.bytes() == known)
 }
 

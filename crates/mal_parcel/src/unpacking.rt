@@ -16,9 +16,6 @@ use mal_base::Name;
 use mal_job::Job;
 use std::alloc::{AllocError, Global};
 
-/// The greatest index of a node in a tree.
-const LAST: u64 = 63;
-
 /// The sections of a parcel from its nodes on: how many nodes there are and their bytes, the bytes of the slices, and
 /// those of the answers.
 #[derive(Drop)]
@@ -64,7 +61,7 @@ fn unpacked(
         (record { key = record { tenant = tenant; job = job }; state = solo (owned own.now) })) }
 {
     let Some(machine) = machine_in(bytes) else {
-        return Err(AllocError);
+        unreachable!();
     };
     let mut made = opened(alloc, number, tenant, job, own)?;
     replay(alloc, &mut made, own, machine.slices, machine.answers)?;
@@ -80,13 +77,14 @@ fn opened(
     job: Name,
     own: &[OwnEvent],
 ) -> Result<Job, AllocError>
+    requires { IsLawful (owned own.now) }
     ensures { IfOk result
         (λ j. j ≡ unstarted number
         (record { key = record { tenant = tenant; job = job }; state = solo (take 1 (owned own.now)) })) }
 {
     match own {
         [OwnEvent::Opened(ask), ..] => Job::fresh(alloc, number, tenant, job, *ask),
-        _ => Err(AllocError),
+        _ => unreachable!(),
     }
 }
 
@@ -134,11 +132,8 @@ fn wake_next<'a>(alloc: Global, job: &mut Job, nodes: &'a [u8]) -> Result<&'a [u
         → IfOk result (λ r. r.now ≡ more) }
 {
     let Some((index, image, rest)) = take_placed(nodes) else {
-        return Err(AllocError);
+        unreachable!();
     };
-    if index > LAST {
-        return Err(AllocError);
-    }
     let image = Vec::from_slice(alloc, image)?;
     job.wake(index as u32, image)?;
     Ok(rest)

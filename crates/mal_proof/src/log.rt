@@ -8,7 +8,7 @@ ghost use Rattle.mal_proof.specs.Goals.{up_to, goal_lits, last_lits};
 use crate::chunk::{Chunk, chunks_before, place_among};
 use crate::lent::{LentLine, lend_up_to, sort};
 use crate::trim::trimmed;
-use mal_base::{ClauseId, Lines, Lit};
+use mal_base::{ClauseId, Lines, Lit, grown};
 use std::alloc::{AllocError, Global};
 use std::marker::Model;
 use std::mem;
@@ -81,9 +81,7 @@ impl Log {
         }
         let room = lines.saturating_mul(2).max(LEAST_LINES);
         let number_room = numbers.saturating_mul(2).max(LEAST_NUMBERS);
-        if self.count.checked_add(room).is_none() {
-            return Err(AllocError);
-        }
+        grown(self.count, room, usize::MAX)?;
         let mut fresh = Lines::new(*self.full.allocator());
         fresh.reserve(room, number_room, number_room)?;
         self.full.reserve(1)?;

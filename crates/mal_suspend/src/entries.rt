@@ -8,6 +8,7 @@ ghost use Rattle.mal_suspend.specs.{Entries.{slices_of, counted_of, entries_of},
 use crate::entry::Counted;
 use crate::growing::Growing;
 use crate::listed::Listed;
+use mal_base::grown;
 use std::alloc::{AllocError, Global};
 use std::marker::Model;
 use std::sync::Arc;
@@ -176,10 +177,7 @@ fn copied(alloc: Global, listed: &Option<Arc<Listed>>, more: usize) -> Result<Li
 pub(crate) fn next(slices: u64) -> Result<u64, AllocError>
     ensures { IfOk result (λ n. n ≡ slices + 1) }
 {
-    match slices.checked_add(1) {
-        None => Err(AllocError),
-        Some(more) => Ok(more),
-    }
+    Ok(grown(slices as usize, 1, usize::MAX)? as u64)
 }
 
 /// Whether these stand for the same entries, one by one.

@@ -4,7 +4,7 @@ ghost use Rattle.std.specs.Prelude.{◌≡◌, ◌+◌, ◌↔◌, if◌then◌e
 ghost use Rattle.spec_job.specs.Journal.{is_load};
 ghost use Rattle.mal_suspend.specs.{Entries.{entry_of, counted_of}, Replaying.{variables_with}};
 
-use mal_base::{Lit, NumberedClause};
+use mal_base::{Lit, NumberedClause, grown};
 use mal_buffer::Buffer;
 use mal_revision::Revision;
 use std::alloc::AllocError;
@@ -49,10 +49,7 @@ impl Entry {
         ensures { IfOk result (λ n. n ≡ (if is_load (entry_of self.now) then loads + 1 else loads)) }
     {
         match self {
-            Entry::Load(_, _) => match loads.checked_add(1) {
-                None => Err(AllocError),
-                Some(more) => Ok(more),
-            },
+            Entry::Load(_, _) => grown(loads, 1, usize::MAX),
             Entry::Import(_) => Ok(loads),
         }
     }

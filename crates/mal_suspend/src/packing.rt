@@ -1,9 +1,9 @@
 //! Lines in no more room than they need.
 
-ghost use Rattle.std.specs.Prelude.{◌≡◌, ◌+◌, IfOk};
+ghost use Rattle.std.specs.Prelude.{◌≡◌, IfOk};
 ghost use Rattle.mal_suspend.specs.Packed.{literals_of, hints_of};
 
-use mal_base::Lines;
+use mal_base::{Lines, grown};
 use mal_learn::Scratch;
 use std::alloc::{AllocError, Global};
 
@@ -42,18 +42,8 @@ fn sizes_of(lines: &Lines) -> Result<(usize, usize), AllocError>
     let mut literals = 0;
     let mut hints = 0;
     for n in 0..lines.count() {
-        literals = added(literals, lines.lits(n).len())?;
-        hints = added(hints, lines.hints(n).len())?;
+        literals = grown(literals, lines.lits(n).len(), usize::MAX)?;
+        hints = grown(hints, lines.hints(n).len(), usize::MAX)?;
     }
     Ok((literals, hints))
-}
-
-/// The sum of two sizes. One that no memory holds is want of memory.
-fn added(one: usize, more: usize) -> Result<usize, AllocError>
-    ensures { IfOk result (λ n. n ≡ one + more) }
-{
-    match one.checked_add(more) {
-        None => Err(AllocError),
-        Some(sum) => Ok(sum),
-    }
 }

@@ -8,5 +8,5 @@ use Rattle.mal_parcel.proofs.following.again.Goals as goal
 
 pub returns : goal.returns
 returns c b =
-    and-replayed (own_of c.args.event.now) c.args.job.now c.args.slices.now c.args.answers.now b c.enter.new.job c.in_ok-slices.slices.now c.in_ok-answers.answers.now c.in_ok-slices.ensures.job (c.in_ok-slices.ensures.slices b)
-    (c.in_ok-answers.ensures ∙ ap (λ (known : List Answer). drop (length (flat_map answer_bytes (drop (length known) c.enter.new.job.titled.state.answers))) c.args.answers.now) c.answers-known.ensures.value)
+    and-replayed (own_of c.args.event.now) c.args.job.now c.args.slices.now c.args.answers.now b c.enter.new.job c.in_ok-slices.slices.now c.behind_new-answers.result.now c.in_ok-slices.ensures.job (c.in_ok-slices.ensures.slices b)
+    (c.behind_new-answers.ensures ∙ ap (λ (known : List Answer). drop (length (flat_map answer_bytes (drop (length known) c.enter.new.job.titled.state.answers))) c.args.answers.now) c.answers-known.ensures.value)

@@ -1,9 +1,13 @@
-use Rattle.std.proofs.Common.{sym, subst}
+use Rattle.std.proofs.Common.{[], sym, subst}
 use Rattle.spec_job.specs.Viewed.{JobView}
 use Rattle.mal_parcel.specs.Owned.{owned}
 use Rattle.mal_parcel.specs.Replaying.{IsToWake}
-use Rattle.mal_parcel.proofs.CutLemmas.{cut-whole, opened-replayed}
+use Rattle.mal_parcel.proofs.CutLemmas.{always-cut, cut-whole, opened-replayed}
 use Rattle.mal_parcel.proofs.unpacking.unpacked.Goals as goal
+
+pub unreachable-requires : goal.unreachable-requires
+unreachable-requires c =
+    absurd (always-cut (record { tenant = c.args.tenant; job = c.args.job }) (owned c.args.own.now) c.requires.lawful c.requires.again 0 [] [] [] c.args.bytes.now c.requires.spelled c.in_default.ensures)
 
 pub replay-requires-clause-opened : goal.replay-requires-clause-opened
 replay-requires-clause-opened c =
