@@ -2,6 +2,7 @@
 use Rattle.std.proofs.Common.{◌≡◌, ℕ, zero, suc, ◌-◌, ◌<◌, ◌≤◌, Bool, true, false, ◌==◌, List, [], ◌∷◌, ◌++◌, length, get_or, slice_set, map, Option, Some, None, option_map, refl, sym, ◌∙◌, ap, arith}
 use Rattle.std.specs.Prelude.{replicate}
 use Rattle.std.proofs.lemmas.Bool.{both_ways}
+use Rattle.std.proofs.lemmas.List.{length-replicate}
 use Rattle.std.proofs.lemmas.Bool.Decides.{Decides-eqb}
 use Rattle.mal_base.specs.declared.verdict.Outcome.{Outcome}
 use Rattle.mal_hall.specs.Applied.{Enters, HasEntered, IsInside}
@@ -103,6 +104,27 @@ inside-finish x y k index worker outcome is some workers inside entered = record
         let apart : suc n ≡ worker → ⊥ = λ q. other (omega (arith, q)) in
         set-there x.inside (worker - 1) n None None other
         ∙ slot-stays x (Finish k index worker outcome) y.events n is entered low (ap (lease_of (suc n)) out ∙ without-other worker (suc n) (leases x.events) apart)
+
+-- no worker of so many has a lease inside
+abbrev no_lodgers : ℕ → List (Option Handed)
+no_lodgers w = replicate w None
+
+no-lodger : (w n : ℕ) → get_or (no_lodgers w) n None ≡ None
+no-lodger zero n = refl
+no-lodger (suc w) zero = refl
+no-lodger (suc w) (suc n) = no-lodger w n
+
+-- where none is out and none inside, all that are out are inside
+pub inside-home : (x : HallView) → x.inside ≡ replicate x.workers None → leases x.events ≡ [] → IsInside x
+inside-home x none home = record {
+  count = ap (λ (os : List (Option Handed)). length os) none ∙ length-replicate x.workers None;
+  each = λ n low. ap (λ (os : List (Option Handed)). get_or os n None) none ∙ (no-lodger x.workers n ∙ sym (ap (λ (ls : List LeaseOut). option_map (handed x.events) (lease_of (suc n) ls)) home));
+}
+
+-- nothing handed out is inside where nothing is
+pub none-lodged : (w : ℕ) → map (option_map handed_of) (replicate w None) ≡ replicate w None
+none-lodged zero = refl
+none-lodged (suc w) = ap (λ (os : List (Option Handed)). None ∷ os) (none-lodged w)
 
 -- the leases of a hall that has none inside
 none-at : (w n : ℕ) (lodged : List (Option Leased)) → lodged ≡ replicate w None → get_or (map (option_map handed_of) lodged) n None ≡ None

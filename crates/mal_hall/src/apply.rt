@@ -1,6 +1,6 @@
 //! Entering an event that was written down.
 
-ghost use Rattle.std.specs.Prelude.{◌≡◌, false, Some, Err, MatchOption, IfOk, OnOk, IsErrOf};
+ghost use Rattle.std.specs.Prelude.{◌≡◌, ◌↔◌, false, Some, Err, MatchOption, IfOk, OnOk, IsErrOf};
 ghost use Rattle.mal_base.specs.Asks.{Terms, Weighed};
 ghost use Rattle.mal_hall.specs.Applied.{Enters, HasApplied, IsInside, IsRefused, MayNotEnter, StartsAt};
 ghost use Rattle.mal_revision.specs.Posted.{Posted};
@@ -19,8 +19,8 @@ impl Hall {
     /// after the events before it, a Revise without a revision among them. The lease of a start stays inside the hall:
     /// where the event says that the start ran it is worked there, where it says that memory was wanting it is given
     /// back as it was, and where it says that the start was lost it is dropped. Each lease that is out has to be
-    /// inside, as it is in a new hall and after each event that was entered so. The hall is given up where the event is
-    /// not entered.
+    /// inside, as it is in a new hall, after each event that was entered so, and wherever none is out and none inside.
+    /// The hall is given up where the event is not entered.
     pub fn apply(
         self,
         event: &Event,
@@ -290,9 +290,10 @@ impl Hall {
     }
 }
 
-/// Why the opening of a job is not entered that is refused so.
+/// Why the opening of a job is not entered that is refused so: for want of memory exactly where it was refused for that.
 fn refusal_to_open(fault: OpenFault) -> ApplyFault
-    ensures { result ≡ ApplyFault.NotAllowed → (k : Key) (ask : Terms) → wanted (Opens k ask) (Err fault) ≡ false }
+    ensures refused { result ≡ ApplyFault.NotAllowed → (k : Key) (ask : Terms) → wanted (Opens k ask) (Err fault) ≡ false }
+    ensures wanting { (result ≡ ApplyFault.OutOfMemory) ↔ (fault ≡ OpenFault.OutOfMemory) }
 {
     match fault {
         OpenFault::Duplicate => ApplyFault::NotAllowed,
@@ -302,9 +303,10 @@ fn refusal_to_open(fault: OpenFault) -> ApplyFault
     }
 }
 
-/// Why a revision is not entered that is refused so.
+/// Why a revision is not entered that is refused so: for want of memory exactly where it was refused for that.
 fn refusal_to_revise(fault: ReviseFault) -> ApplyFault
-    ensures { result ≡ ApplyFault.NotAllowed → (k : Key) (r : Posted) → wanted (Revises k r) (Err fault) ≡ false }
+    ensures refused { result ≡ ApplyFault.NotAllowed → (k : Key) (r : Posted) → wanted (Revises k r) (Err fault) ≡ false }
+    ensures wanting { (result ≡ ApplyFault.OutOfMemory) ↔ (fault ≡ ReviseFault.OutOfMemory) }
 {
     match fault {
         ReviseFault::NoJob => ApplyFault::NotAllowed,
@@ -315,9 +317,11 @@ fn refusal_to_revise(fault: ReviseFault) -> ApplyFault
     }
 }
 
-/// Why it is not entered that a job asks anew, which is refused so.
+/// Why it is not entered that a job asks anew, which is refused so: for want of memory exactly where it was refused for
+/// that.
 fn refusal_to_reask(fault: ReaskFault) -> ApplyFault
-    ensures { result ≡ ApplyFault.NotAllowed → (k : Key) (w : Weighed) → wanted (Reasks k w) (Err fault) ≡ false }
+    ensures refused { result ≡ ApplyFault.NotAllowed → (k : Key) (w : Weighed) → wanted (Reasks k w) (Err fault) ≡ false }
+    ensures wanting { (result ≡ ApplyFault.OutOfMemory) ↔ (fault ≡ ReaskFault.OutOfMemory) }
 {
     match fault {
         ReaskFault::NoJob => ApplyFault::NotAllowed,

@@ -47,6 +47,7 @@ impl Hall {
     /// Posts by the call of the post's kind. After a refusal the hall is as before.
     pub fn post(&mut self, post: Post) -> Result<(), PostFault>
         ensures workers { self.new.workers ≡ self.old.workers }
+        ensures inside { self.new.inside ≡ self.old.inside }
         ensures ok { OnOk result (self.new.events ≡ self.old.events ++ event_of self.old.events post ∷ []) }
         ensures err { OnErr result (self.new.events ≡ self.old.events) }
         ensures call { HasPosted self.old.workers self.old.events post result self.new.events }
@@ -84,7 +85,7 @@ impl Hall {
 /// the answer; it tells the caller's own calls with their answers, in their order. A desk says nothing of the calls of
 /// others.
 pub trait Desk: Sync {
-    ghost use Rattle.std.specs.Prelude.{◌≡◌, ℕ, ◌≤◌, List, [], ◌∷◌, ◌++◌};
+    ghost use Rattle.std.specs.Prelude.{◌≡◌, ℕ, ◌≤◌, List, [], ◌∷◌, ◌++◌, IfErr};
     ghost use Rattle.mal_hall.specs.{Desks.{DeskCall, Picked, Gave, IsOwn}, Offered.{offered, returned}};
 
     type Pass: Send + Drop;
@@ -107,9 +108,10 @@ pub trait Desk: Sync {
         ensures calls { calls result.0 ≡ calls pass ++ Picked worker (offered result.1) ∷ [] }
         ensures own { IsOwn worker (offered result.1) };
 
-    /// Gives back what came of a lease.
+    /// Gives back what came of a lease. What is strange comes back as it was given.
     fn finish<R: Wait>(&self, rt: &R, pass: Self::Pass, back: Done) -> (Self::Pass, FinishAnswer)
         requires of { is_of self.now pass }
         ensures of { is_of self.now result.0 }
-        ensures calls { calls result.0 ≡ calls pass ++ Gave back (returned result.1) ∷ [] };
+        ensures calls { calls result.0 ≡ calls pass ++ Gave back (returned result.1) ∷ [] }
+        ensures back { IfErr result.1 (λ s. s.back ≡ back) };
 }

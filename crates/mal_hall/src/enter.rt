@@ -60,10 +60,10 @@ pub fn enter_open(
     seats.open(number, tenant, job, ask)?;
     match note(names, entrant) {
         Ok(()) => {}
-        Err(_) => {
+        Err(error) => {
             // The job is not named, so it does not come.
             seats.leave(seats.len() - 1);
-            return Err(AllocError);
+            return Err(error);
         }
     }
     entries.push_reserved(Event::Open { tenant, job, ask });
@@ -128,10 +128,10 @@ fn seat_arrival(
     };
     match note(names, entrant) {
         Ok(()) => Ok(is_closed),
-        Err(_) => {
+        Err(error) => {
             // The job is not named, so it does not come.
             seats.leave(seats.len() - 1);
-            Err(AllocError)
+            Err(error)
         }
     }
 }

@@ -1,6 +1,6 @@
 //! The hall and its calls.
 
-ghost use Rattle.std.specs.Prelude.{◌≡◌, ◌↔◌, ◌+◌, ◌-◌, ◌<◌, ◌≤◌, IsTrue, length, get_or, slice_get, slice_set, [], ◌∷◌, ◌++◌, true, false, Some, None, MatchOption, IsErrOf, map, option_map, is_some, OnOk, OnErr, IfOk, IfErr, IfSome};
+ghost use Rattle.std.specs.Prelude.{◌≡◌, ◌↔◌, ◌+◌, ◌-◌, ◌<◌, ◌≤◌, IsTrue, length, get_or, slice_get, slice_set, [], ◌∷◌, ◌++◌, true, false, Some, None, MatchOption, IsErrOf, map, option_map, is_some, OnOk, OnErr, IfOk, IfErr, IfSome, replicate};
 ghost use Rattle.std.specs.Option.{option_copied};
 ghost use Rattle.mal_base.specs.{Asks.{IsAsk}, Names.{is_name}};
 ghost use Rattle.mal_hall.specs.{Applied.{IsInside, listed_last}, Offered.{HasArranged, HasBalanced, HasEnded, HasExchanged, HasStarted, IsFirst, MayEnd, MayStartAt, handed_of, offered, replied, returned}, HallView.{next_number}, Driven.{HasWorkedOff, IsTurn}, Replying.{AnswersRightly, HasJob, OfAlone, OfJob}};
@@ -21,7 +21,7 @@ use crate::places::place_of;
 use crate::room::{next_number, tenants_after};
 use crate::spots::{Spot, count_out, no_leases, owed, spot_of};
 use mal_base::{
-    Ask, CloseFault, Name, OpenFault, PickFault, ReaskFault, ReplyFault, ReviseFault, Weight,
+    Ask, CloseFault, Name, OpenFault, PickFault, ReaskFault, ReplyFault, ReviseFault, Weight, grown,
 };
 use mal_history::{Event, History, Shares};
 use mal_job::Job;
@@ -80,6 +80,7 @@ impl Hall {
         requires bound { workers ≤ 64 }
         ensures workers { IfOk result (λ h. h.workers ≡ workers) }
         ensures events { IfOk result (λ h. h.events ≡ []) }
+        ensures none { IfOk result (λ h. h.inside ≡ replicate workers None) }
         ensures inside { IfOk result (λ h. IsInside h) }
     {
         Ok(Hall {
@@ -375,7 +376,7 @@ impl Hall {
         let owed = owed(&self.entries, &self.seats, self.unclosed, &self.spots);
         match enter_exchange(&mut self.entries, &mut self.seats, at, owed) {
             Ok(()) => {}
-            Err(_) => return Err(AllocError),
+            Err(error) => return Err(error),
         }
         Ok(())
     }
@@ -384,6 +385,7 @@ impl Hall {
     #[tactic(auto, using(crate::proofs::PhaseLemmas::arranging))]
     fn balance_due(&mut self) -> Result<(), AllocError>
         ensures workers { self.new.workers ≡ self.old.workers }
+        ensures inside { self.new.inside ≡ self.old.inside }
         ensures due { HasArranged self.old.workers self.old.events self.new.events }
         ensures calm { OnOk result (Some (lives (states self.new.events)) ≡ balanced self.new.events) }
     {
@@ -392,7 +394,7 @@ impl Hall {
         }
         match self.balance() {
             Ok(()) => {}
-            Err(_) => return Err(AllocError),
+            Err(error) => return Err(error),
         }
         Ok(())
     }
@@ -402,6 +404,7 @@ impl Hall {
     fn exchange_due(&mut self) -> Result<bool, AllocError>
         requires calm { Some (lives (states self.old.events)) ≡ balanced self.old.events }
         ensures workers { self.new.workers ≡ self.old.workers }
+        ensures inside { self.new.inside ≡ self.old.inside }
         ensures due { HasArranged self.old.workers self.old.events self.new.events }
         ensures calm { IfOk result (λ b. Some (lives (states self.new.events)) ≡ balanced self.new.events) }
         ensures none { IfOk result (λ b. b ≡ false → exchange_due (states self.new.events) ≡ None) }
@@ -412,7 +415,7 @@ impl Hall {
         };
         match self.exchange_at(at) {
             Ok(()) => {}
-            Err(_) => return Err(AllocError),
+            Err(error) => return Err(error),
         }
         Ok(true)
     }
@@ -421,12 +424,13 @@ impl Hall {
     /// entered stays.
     fn arrange(&mut self) -> Result<(), AllocError>
         ensures workers { self.new.workers ≡ self.old.workers }
+        ensures inside { self.new.inside ≡ self.old.inside }
         ensures due { HasArranged self.old.workers self.old.events self.new.events }
         ensures calm { OnOk result (IsCalm self.new.events) }
     {
         match self.balance_due() {
             Ok(()) => {}
-            Err(_) => return Err(AllocError),
+            Err(error) => return Err(error),
         }
         while self.exchange_due()? {}
         Ok(())
@@ -447,9 +451,7 @@ impl Hall {
             (λ lease. HasStarted self.old.workers self.old.events self.new.events index worker lease) }
         ensures err { OnErr result (self.new.events ≡ self.old.events) }
     {
-        if self.starts == u64::MAX {
-            return Err(AllocError);
-        }
+        grown(self.starts as usize, 1, usize::MAX)?;
         let start = self.starts + 1;
         let spot = Spot::new(self.seats.at(at).job().number(), index, start);
         let owed = owed(&self.entries, &self.seats, self.unclosed, &self.spots);
@@ -462,7 +464,7 @@ impl Hall {
             owed + 1,
         ) {
             Ok(lease) => lease,
-            Err(_) => return Err(AllocError),
+            Err(error) => return Err(error),
         };
         self.starts = start;
         self.spots[worker as usize - 1] = Some(spot);
@@ -477,6 +479,7 @@ impl Hall {
         requires some { 1 ≤ worker }
         requires bound { worker ≤ self.old.workers }
         ensures workers { self.new.workers ≡ self.old.workers }
+        ensures inside { self.new.inside ≡ self.old.inside }
         ensures call { HasCalled self.old.workers self.old.events (Picks worker) (offered result) self.new.events }
     {
         if self.has_lease(worker) {
@@ -563,6 +566,7 @@ impl Hall {
     /// strange is handed back with the number of that lease's start, and the hall is as before. Takes no memory.
     pub fn finish(&mut self, back: Done) -> Result<Back, Strange>
         ensures workers { self.new.workers ≡ self.old.workers }
+        ensures inside { self.new.inside ≡ self.old.inside }
         ensures call { HasCalled self.old.workers self.old.events (Finishes back) (returned result) self.new.events }
         ensures back { IfErr result (λ s. s.back ≡ back) }
     {
@@ -578,6 +582,7 @@ impl Hall {
     /// Enters every lease that is out as lost, by rising worker. Takes no memory.
     pub fn recall(&mut self)
         ensures workers { self.new.workers ≡ self.old.workers }
+        ensures inside { self.new.inside ≡ self.old.inside }
         ensures call { HasCalled self.old.workers self.old.events Recalls tt self.new.events }
         ensures home { leases self.new.events ≡ [] }
     {
@@ -596,6 +601,7 @@ impl Hall {
     pub fn drive(&mut self, scratch: &mut Scratch) -> Result<(), AllocError>
         requires home { leases self.old.events ≡ [] }
         ensures workers { self.new.workers ≡ self.old.workers }
+        ensures inside { self.new.inside ≡ self.old.inside }
         ensures turns { GrowsByTurns self.old.workers self.old.events self.new.events }
         ensures home { leases self.new.events ≡ [] }
         ensures end { OnOk result (IsAtEnd self.new.events) }
@@ -610,6 +616,7 @@ impl Hall {
     pub fn turn(&mut self, scratch: &mut Scratch) -> Result<bool, AllocError>
         requires home { leases self.old.events ≡ [] }
         ensures workers { self.new.workers ≡ self.old.workers }
+        ensures inside { self.new.inside ≡ self.old.inside }
         ensures turned { IsTurn self.old.workers self.old.events result self.new.events }
     {
         // For the proof.
@@ -628,6 +635,7 @@ impl Hall {
     /// Works a lease off and takes back what came of it.
     fn work_off(&mut self, lease: Lease, scratch: &mut Scratch)
         ensures workers { self.new.workers ≡ self.old.workers }
+        ensures inside { self.new.inside ≡ self.old.inside }
         ensures off { HasWorkedOff self.old.workers self.old.events lease self.new.events }
     {
         match self.finish(lease.work(scratch)) {
@@ -643,9 +651,10 @@ impl Hall {
         self.seats.is_answered()
     }
 
-    /// Whether no lease is out.
+    /// Whether no lease is out. Where none is kept inside either, events that were written down may be entered.
     pub fn is_home(&self) -> bool
-        ensures { IsTrue result ↔ (leases self.now.events ≡ []) }
+        ensures value { IsTrue result ↔ (leases self.now.events ≡ []) }
+        ensures inside { IsTrue result → self.now.inside ≡ replicate self.now.workers None → IsInside self.now }
     {
         count_out(&self.spots) == 0
     }

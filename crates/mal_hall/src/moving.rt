@@ -11,7 +11,7 @@ use crate::event_list::EventList;
 use crate::hall::Hall;
 use crate::places::place_of;
 use crate::spots::owed;
-use mal_base::{AdmitFault, Name, PackFault};
+use mal_base::{AdmitFault, Name, PackFault, grown};
 use mal_job::Job;
 use mal_learn::Scratch;
 use mal_parcel::{OwnEvent, Owned, Parcel};
@@ -105,9 +105,7 @@ impl Hall {
         ensures err { OnErr result (self.new.events ≡ self.old.events) }
     {
         is_in_form(parcel);
-        if self.comings == u64::MAX {
-            return Err(AllocError);
-        }
+        grown(self.comings as usize, 1, usize::MAX)?;
         let alloc = *self.spots.allocator();
         let tenants = tenants_with(self.tenants, self.names.jobs_of(parcel.tenant()));
         let owed = owed(&self.entries, &self.seats, self.unclosed, &self.spots);
@@ -121,7 +119,7 @@ impl Hall {
             owed + 2,
         ) {
             Ok(is_closed) => is_closed,
-            Err(_) => return Err(AllocError),
+            Err(error) => return Err(error),
         };
         self.unclosed += open_one(is_closed);
         self.tenants = tenants;

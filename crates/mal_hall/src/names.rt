@@ -64,12 +64,12 @@ impl Names {
         let jobs = self.jobs_of(tenant);
         match self.tenants.insert(tenant, jobs) {
             Ok(_) => {}
-            Err(_) => return Err(AllocError),
+            Err(error) => return Err(error.into()),
         }
         match self.numbers.insert((tenant, job), number) {
             Ok(Some(_)) => return Ok(()),
             Ok(None) => {}
-            Err(_) => return Err(AllocError),
+            Err(error) => return Err(error.into()),
         }
         match self.tenants.insert(tenant, jobs + 1) {
             Ok(_) => Ok(()),

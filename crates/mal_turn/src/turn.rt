@@ -7,7 +7,7 @@ use crate::steps::{Cut, Glue, Look};
 use crate::table::{Held, HeldOf, InUse, SERVING, TICKET, Token, TokenOf, Turn};
 use crate::view::Recorded;
 use crate::waiting::Waiting;
-use atomic_table::Table;
+use atomic_table::{Refused, Table};
 use std::alloc::{AllocError, Global};
 use std::sync::Wait;
 
@@ -27,7 +27,8 @@ impl<T: Recorded + Drop> Turn<T> {
                 },
                 TokenOf { place },
             )),
-            Err(_) => Err(AllocError),
+            // The table hands the value back in the place of the allocation's error.
+            Err(Refused { .. }) => Err(AllocError),
         }
     }
 

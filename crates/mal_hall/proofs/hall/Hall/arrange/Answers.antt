@@ -8,6 +8,7 @@ returns-in_err-exchange_due-clause-due c = arranged-more _ _ _ _ _ c.loop.invari
 pub loop-preserved : goal.loop-preserved
 loop-preserved c = record {
   workers = c.exchange_due.ensures.workers ∙ c.loop.invariant.workers;
+  inside = c.exchange_due.ensures.inside ∙ c.loop.invariant.inside;
   due = arranged-more _ _ _ _ _ c.loop.invariant.workers c.loop.invariant.due c.exchange_due.ensures.due;
   calm = c.in_ok-exchange_due.ensures.calm;
 }

@@ -7,6 +7,7 @@ use Rattle.mal_hall.proofs.hall.Hall.arrange.Given as goal
 abbrev pub invariant-loop : goal.invariant-loop
 invariant-loop l = record {
   workers : l.self.workers ≡ l.fn.self.workers;
+  inside : l.self.inside ≡ l.fn.self.inside;
   due : HasArranged l.fn.self.workers l.fn.self.events l.self.events;
   calm : Some (lives (states l.self.events)) ≡ balanced l.self.events;
 }

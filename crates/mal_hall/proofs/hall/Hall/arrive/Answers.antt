@@ -5,8 +5,8 @@ use Rattle.mal_hall.proofs.MovingLemmas.{hall-arrive, hall-few, may-arrive, tena
 use Rattle.mal_hall.proofs.Parts.{parts}
 use Rattle.mal_hall.proofs.hall.Hall.arrive.Goals as goal
 
-pub returns-then-self-clause-may : goal.returns-then-self-clause-may
-returns-then-self-clause-may c = may-arrive _ c.args.parcel.now.key c.args.parcel.now.own c.requires c.is_in_form.ensures.tenant c.is_in_form.ensures.job c.is_in_form.ensures.lawful c.is_in_form.ensures.home c.is_in_form.ensures.still
+pub returns-in_err-grown-clause-may : goal.returns-in_err-grown-clause-may
+returns-in_err-grown-clause-may c = may-arrive _ c.args.parcel.now.key c.args.parcel.now.own c.requires c.is_in_form.ensures.tenant c.is_in_form.ensures.job c.is_in_form.ensures.lawful c.is_in_form.ensures.home c.is_in_form.ensures.still
 
 pub returns-in-Err-clause-may : goal.returns-in-Err-clause-may
 returns-in-Err-clause-may c = may-arrive _ c.args.parcel.now.key c.args.parcel.now.own c.requires c.is_in_form.ensures.tenant c.is_in_form.ensures.job c.is_in_form.ensures.lawful c.is_in_form.ensures.home c.is_in_form.ensures.still

@@ -8,6 +8,7 @@ returns-in_err-turn-clause-turns c = turns-behind _ _ _ _ _ c.loop.invariant.wor
 pub loop-preserved : goal.loop-preserved
 loop-preserved c = record {
   workers = c.turn.ensures.workers ∙ c.loop.invariant.workers;
+  inside = c.turn.ensures.inside ∙ c.loop.invariant.inside;
   turns = turns-behind _ _ _ _ _ c.loop.invariant.workers c.loop.invariant.turns c.turn.ensures.turned.turns;
   home = c.turn.ensures.turned.home;
 }

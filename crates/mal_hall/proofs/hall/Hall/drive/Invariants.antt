@@ -7,6 +7,7 @@ use Rattle.mal_hall.proofs.hall.Hall.drive.Given as goal
 abbrev pub invariant-loop : goal.invariant-loop
 invariant-loop l = record {
   workers : l.self.workers ≡ l.fn.self.workers;
+  inside : l.self.inside ≡ l.fn.self.inside;
   turns : GrowsByTurns l.fn.self.workers l.fn.self.events l.self.events;
   home : leases l.self.events ≡ [];
 }

@@ -11,4 +11,4 @@ returns-in-Ok-clause-entered c =
     enters-same _ _ (Open (keyed c.args.tenant c.args.job) c.args.ask) is c.in-Ok.ensures.workers c.in-Ok.ensures.inside (open-entered _ _ _ (keyed c.args.tenant c.args.job) c.args.ask c.in-Ok.ensures.call) refl
 
 pub returns-in-Err-clause-refused : goal.returns-in-Err-clause-refused
-returns-in-Err-clause-refused c = λ is may. open-refused _ _ _ (keyed c.args.tenant c.args.job) c.args.ask c.in-Err.fault c.in-Err.ensures.call (c.refusal_to_open.ensures (fault-is _ _ is) (keyed c.args.tenant c.args.job) c.args.ask) may
+returns-in-Err-clause-refused c = λ is may. open-refused _ _ _ (keyed c.args.tenant c.args.job) c.args.ask c.in-Err.fault c.in-Err.ensures.call (c.refusal_to_open.ensures.refused (fault-is _ _ is) (keyed c.args.tenant c.args.job) c.args.ask) may

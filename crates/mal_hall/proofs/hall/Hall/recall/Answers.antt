@@ -14,11 +14,13 @@ loop-worker-preserved c =
     elim c.if-has_lease.branch [
       | then-has_lease w ↦ rw w.self-is (record {
         workers = w.end.ensures.workers ∙ c.loop-worker.invariant.workers;
+        inside = w.end.ensures.inside ∙ c.loop-worker.invariant.inside;
         grown = lose-one c.args.self.now.workers c.loop-worker.worker _ _ low w.end.ensures.ended ∙ c.loop-worker.invariant.grown;
         home = home-one c.loop-worker.worker c.loop-worker.self.events w.end.new.self.events c.loop-worker.invariant.home w.end.ensures.ended;
       })
       | else-has_lease w ↦ rw w.self-is (record {
         workers = c.loop-worker.invariant.workers;
+        inside = c.loop-worker.invariant.inside;
         grown = lose-none c.args.self.now.workers c.loop-worker.worker c.loop-worker.self.events low (sym c.has_lease.ensures ∙ w.if-has_lease.false) ∙ c.loop-worker.invariant.grown;
         home = home-none c.loop-worker.worker c.loop-worker.self.events c.loop-worker.invariant.home (sym c.has_lease.ensures ∙ w.if-has_lease.false);
       })
