@@ -2,9 +2,11 @@
 pub mod RunLosses
 pub mod CallLosses
 pub mod Knowing
+pub mod Withins
 -- what this crate alone cites
 mod PoolLemmas
 mod Loops
+mod Playing
 mod LoopLaws
 mod Postings
 mod Leavings

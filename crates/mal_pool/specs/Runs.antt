@@ -1,4 +1,4 @@
-use Rattle.std.specs.Prelude.{◌≡◌, ◌⊎◌, ℕ, ◌≤◌, ◌<◌, List, [], ◌∷◌, ◌++◌, length, map, flat_map, fold, sum_by, slice_get, Option, Some, None, Ok, Err}
+use Rattle.std.specs.Prelude.{◌≡◌, ◌⊎◌, ℕ, List, [], ◌∷◌, ◌++◌, map, flat_map, fold, Option, Some, None, Ok, Err}
 use Rattle.spec_hall.specs.Calls.{recalled}
 use Rattle.spec_hall.specs.Driven.{GrowsByTurns}
 use Rattle.spec_hall.specs.Events.{Event, Open, Revise, Reask, Close}
@@ -12,8 +12,6 @@ use Rattle.mal_hall.specs.Desks as desks
 use Rattle.mal_hall.specs.Desks.{DeskCall, event_of}
 use Rattle.mal_posts.specs.Dues.{left_in, of_tenant}
 use Rattle.mal_posts.specs.declared.cursor.Left.{Left}
-use Rattle.mal_pool.specs.declared.role.Part.{Part}
-use Rattle.mal_pool.specs.declared.role.Part.TheVariants as parts
 
 -- the post that opens a job of a script
 abbrev pub open_post : ScriptedJob → Post
@@ -58,21 +56,6 @@ left_by jobs l = posts_in (left_in jobs l)
 -- a history behind which these were posted, each taken
 abbrev pub posted_on : List Event → List Post → List Event
 posted_on past ps = fold (λ now p. now ++ event_of now p ∷ []) past ps
-
--- how many workers jobs ask for together
-abbrev pub demand_of : List ScriptedJob → ℕ
-demand_of jobs = sum_by (λ j. j.ask.demand) jobs
-
--- a part that a hall of so many workers has in a run of these jobs
-abbrev pub Fits : ℕ → List ScriptedJob → Part → Type 0
-Fits workers jobs (parts.Poster place) = place < length jobs
-Fits workers jobs (parts.Worker number) = (1 ≤ number) × (number ≤ workers)
-
--- what a part did: a poster posted the jobs of its tenant up to the place that it hands back, and a worker hands none
--- back
-abbrev pub HasPlayed : List ScriptedJob → Part → Option Left → List DeskCall → Type 0
-HasPlayed jobs (parts.Poster place) left mine = (j : ScriptedJob) × (slice_get jobs place ≡ Some j) × HasPosted j.tenant jobs left mine
-HasPlayed jobs (parts.Worker number) left mine = left ≡ None
 
 -- a history was brought to its end: what was left was posted, what was out recalled, and the rest came by turns, until
 -- no job is live and nothing is out

@@ -7,12 +7,17 @@ use std::sync::Wait;
 /// A desk at which tenants post, with passes that are split and joined. In the end it gives its hall, of which no lease
 /// was lost.
 pub trait Board: Desk + Drop {
-    ghost use Rattle.std.specs.Prelude.{◌≡◌, ◌<◌, [], ◌∷◌, ◌++◌, IfOk, IfErr};
+    ghost use Rattle.std.specs.Prelude.{◌≡◌, ◌<◌, List, [], ◌∷◌, ◌++◌, IfOk, IfErr};
     ghost use Rattle.mal_hall.specs.Desks.{Posted};
+    ghost use Rattle.mal_pool.specs.Traces.{IsWithin};
+    ghost use Rattle.spec_hall.specs.Events.{Event};
     ghost use Rattle.spec_run.specs.Losses.{NoneIsLost};
 
     /// Whether a pass is the whole of its board's: no other is left.
     ghost is_whole: { Self.Pass → Type 0 };
+
+    /// Which histories a hall may have that was called with a pass, and with others.
+    ghost leaves: { Self.Pass → List Event → Type 0 };
 
     /// Posts for a tenant. After a refusal the hall is as before.
     fn post<R: Wait>(
@@ -32,17 +37,20 @@ pub trait Board: Desk + Drop {
         ensures other { Self.is_of self.now result.1 }
         ensures calls { Self.calls result.0 ≡ Self.calls pass };
 
-    /// One pass of two.
+    /// One pass of two, which tells the calls of both.
     fn join(&self, pass: Self::Pass, other: Self::Pass) -> Self::Pass
         requires of { Self.is_of self.now pass }
         requires other { Self.is_of self.now other }
-        ensures of { Self.is_of self.now result };
+        ensures of { Self.is_of self.now result }
+        ensures one { IsWithin (Self.calls pass) (Self.calls result) }
+        ensures both { IsWithin (Self.calls other) (Self.calls result) };
 
-    /// Gives the hall. It is in use only where the pass is not whole and a holder did not pass its turn on; the hall is
-    /// given up then.
+    /// Gives the hall that was called. It is in use only where the pass is not whole and a holder did not pass its turn on;
+    /// the hall is given up then.
     fn close(self, pass: Self::Pass) -> Result<Hall, InUse>
         requires of { Self.is_of self pass }
         ensures workers { IfOk result (λ h. h.workers ≡ Self.workers self) }
         ensures none_lost { IfOk result (λ h. NoneIsLost h.events) }
+        ensures hall { IfOk result (λ h. leaves pass h.events) }
         ensures in_use { IfErr result (λ u. (u.serving < u.ticket) × ¬ is_whole pass) };
 }

@@ -81,6 +81,8 @@ impl<S: Size + Send + Sync> Desk for Shared<S> {
 impl<S: Size + Send + Sync> Board for Shared<S> {
     ghost is_whole = { λ pass. Unit {0} };
 
+    ghost leaves = { λ pass history. Unit {0} };
+
     fn post<R: Wait>(
         &self,
         rt: &R,
@@ -99,8 +101,8 @@ impl<S: Size + Send + Sync> Board for Shared<S> {
     }
 
     fn join(&self, pass: OwnCalls, other: OwnCalls) -> OwnCalls {
-        drop(other);
-        pass
+        let log = pass.log.with(other.log);
+        OwnCalls { log }
     }
 
     fn close(self, pass: OwnCalls) -> Result<Hall, InUse> {

@@ -2,7 +2,7 @@
 
 ghost use Rattle.std.specs.Prelude.{◌≡◌, ◌≤◌, List, ◌++◌, true};
 ghost use Rattle.mal_hall.specs.Desks.{DeskCall};
-ghost use Rattle.mal_pool.specs.{Gates.{StopsSomewhere}, Runs.{Fits, HasPlayed}};
+ghost use Rattle.mal_pool.specs.{Gates.{StopsSomewhere}, Parts.{AreLoops, Fits, HasPlayed, is_idle, is_stop}};
 
 use crate::board::Board;
 use crate::gate::Gate;
@@ -24,8 +24,8 @@ pub enum Part {
 /// How many turns a worker's loop is given.
 const TURNS: u64 = 1 << 20;
 
-/// How often a worker's loop is called again where there was nothing for it.
-const AGAIN: u32 = 32;
+/// How many loops a worker has, one behind another as long as there was nothing for it.
+const LOOPS: u32 = 33;
 
 /// A part with its pass.
 #[derive(Drop)]
@@ -55,7 +55,7 @@ pub fn play<R: Wait, B: Board, G: Gate>(
     requires fits { Fits (B.workers board.now) jobs.now role.part }
     ensures of { B.is_of board.now result.pass }
     ensures played { (mine : List DeskCall) × (B.calls result.pass ≡ B.calls role.pass ++ mine)
-        × HasPlayed jobs.now role.part result.left mine }
+        × HasPlayed (G.stops gate.now) jobs.now role.part result.left result.stopped mine }
     ensures stopped { result.stopped ≡ true → StopsSomewhere (G.stops gate.now) }
 {
     match role.part {
@@ -81,7 +81,8 @@ pub fn play<R: Wait, B: Board, G: Gate>(
     }
 }
 
-/// Works as long as there is work. True where the gate stopped the worker.
+/// Works as long as there is work: in loops, each behind one that ended idle. True where the gate stopped the worker in the
+/// last of them.
 fn work<R: Wait, B: Board, G: Gate>(
     rt: &R,
     board: &B,
@@ -94,18 +95,47 @@ fn work<R: Wait, B: Board, G: Gate>(
     requires low { 1 ≤ number }
     requires high { number ≤ B.workers board.now }
     ensures of { B.is_of board.now result.0 }
-    ensures calls { (mine : List DeskCall) × (B.calls result.0 ≡ B.calls pass ++ mine) }
+    ensures calls { (mine : List DeskCall) × (B.calls result.0 ≡ B.calls pass ++ mine)
+        × AreLoops (G.stops gate.now) number 1048576 33 mine result.1 }
     ensures stopped { result.1 ≡ true → StopsSomewhere (G.stops gate.now) }
 {
     let mut pass = pass;
-    for _ in 0..=AGAIN {
+    for _made in 0..LOOPS {
         let (back, end) = work_loop(rt, board, pass, number, scratch, gate, TURNS);
         pass = back;
-        match end {
-            End::Idle => {}
-            End::Stopped => return (pass, true),
-            _ => return (pass, false),
+        if !is_idle(end) {
+            return (pass, is_stop(end));
         }
     }
     (pass, false)
+}
+
+/// Whether a loop ended idle.
+fn is_idle(end: End) -> bool
+    ensures { result ≡ is_idle end }
+{
+    match end {
+        End::AllDone => false,
+        End::Idle => true,
+        End::Spent => false,
+        End::Busy => false,
+        End::Strange => false,
+        End::Stopped => false,
+        End::OutOfMemory => false,
+    }
+}
+
+/// Whether a loop ended where the gate stopped its worker.
+fn is_stop(end: End) -> bool
+    ensures { result ≡ is_stop end }
+{
+    match end {
+        End::AllDone => false,
+        End::Idle => false,
+        End::Spent => false,
+        End::Busy => false,
+        End::Strange => false,
+        End::Stopped => true,
+        End::OutOfMemory => false,
+    }
 }

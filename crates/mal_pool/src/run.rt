@@ -2,7 +2,7 @@
 
 ghost use Rattle.std.specs.Prelude.{◌≡◌, ◌≤◌, min, true, List, [], IfOk, IfSome, OnOk};
 ghost use Rattle.std.specs.List.{All, filter_map, list_any};
-ghost use Rattle.mal_pool.specs.{Gates.{LosesByStops, StopsSomewhere}, Posts.{HasRun}, Runs.{Fits, IsSettled, demand_of}, Testing.{HasPosts}};
+ghost use Rattle.mal_pool.specs.{Gates.{LosesByStops, StopsSomewhere}, Parts.{Fits, demand_of}, Posts.{HasRun}, Runs.{IsSettled}, Testing.{HasPosts}};
 ghost use Rattle.spec_hall.specs.{Driven.{GrowsByTurns, IsDriven}, Events.{Event}, Legal.{Legal}, States.{leases, lives, states}};
 ghost use Rattle.spec_run.specs.{Complete.{script_events}, Losses.{NoneIsLost, is_loss}};
 

@@ -1,6 +1,6 @@
 //! A hall under a lock.
 
-ghost use Rattle.std.specs.Prelude.{◌≡◌, ◌≤◌};
+ghost use Rattle.std.specs.Prelude.{◌≡◌, ◌≤◌, IfErr};
 ghost use Rattle.mal_hall.specs.{Desks.{HasPosted, IsOwn}, Offered.{offered, returned}};
 ghost use Rattle.spec_hall.specs.Calls.{HasCalled, Picks, Finishes};
 ghost use Rattle.spec_run.specs.Losses.{NoneIsLost};
@@ -46,7 +46,8 @@ impl<S: Size> HallBox<S> {
     /// Takes back what came of a lease.
     #[tactic(auto, using(crate::proofs::CallLosses::finish_loses_none))]
     pub fn finish(&mut self, back: Done) -> Result<Back, Strange>
-        ensures { HasCalled S.workers self.old.hall.events (Finishes back) (returned result) self.new.hall.events }
+        ensures call { HasCalled S.workers self.old.hall.events (Finishes back) (returned result) self.new.hall.events }
+        ensures back { IfErr result (λ s. s.back ≡ back) }
     {
         self.hall.finish(back)
     }

@@ -11,6 +11,7 @@ use std::snapshot::Snapshot;
 pub enum Trace<T> {
     Empty,
     After(Snapshot<Trace<T>>, T),
+    Both(Snapshot<Trace<T>>, Snapshot<Trace<T>>),
 }
 
 impl<T: Drop> Trace<T> {
@@ -27,5 +28,14 @@ impl<T: Drop> Trace<T> {
     {
         let before = Snapshot::of(&self);
         Trace::After(before, last)
+    }
+
+    /// This, and behind it another. Takes no memory.
+    pub fn with(self, other: Trace<T>) -> Trace<T>
+        ensures { traced result ≡ traced self ++ traced other }
+    {
+        let one = Snapshot::of(&self);
+        let two = Snapshot::of(&other);
+        Trace::Both(one, two)
     }
 }

@@ -1,25 +1,33 @@
 //! Replaying a history.
 
-ghost use Rattle.std.specs.Prelude.{◌+◌, ◌<◌, Ok, Err, length, IfOk, IfErr};
+ghost use Rattle.std.specs.Prelude.{◌≡◌, ℕ, ◌+◌, ◌<◌, Ok, Err, length, IfOk, IfErr};
 ghost use Rattle.mal_history.specs.Written.{line_at};
+ghost use Rattle.mal_pool.specs.Posts.{HasRun};
 ghost use Rattle.mal_replay.specs.Replaying.{HasReplayed};
-ghost use Rattle.spec_run.specs.Replayed.{IsReplay};
+ghost use Rattle.spec_run.specs.{Replayed.{IsReplay}, Run.{replies}};
 
 use crate::contents::posted_in;
 use mal_base::ReplayFault;
 use mal_hall::{ApplyFault, Hall};
 use mal_history::History;
 use mal_learn::Scratch;
-use mal_pool::replies;
+use mal_pool::{replies, replies_by};
 use mal_posts::have_posts;
 use mal_script::Script;
-use std::alloc::Global;
+use std::alloc::{AllocError, Global};
+use std::thread::Threads;
 
 /// The replies to a script of which this is the history: exactly where it is legal and complete for the script.
 /// `NotLegal` names the line of the first event that is not allowed, and `NotComplete` tells that each event is
 /// allowed, but that the history does not post what the script says, or that a revision is not answered or a lease is
-/// out. Each revision is the script's. The slices that the history says were run are run again.
-pub fn replay(alloc: Global, script: &Script, history: &History) -> Result<Vec<u8>, ReplayFault>
+/// out. Each revision is the script's. The slices that the history says were run are run again, on this thread; the
+/// replies are made by as many threads as the run had workers, where it had more than one.
+pub fn replay<R: Threads + Sync>(
+    rt: &R,
+    alloc: Global,
+    script: &Script,
+    history: &History,
+) -> Result<Vec<u8>, ReplayFault>
     ensures ok { IfOk result
         (λ text. IsReplay history.now.workers script.now history.now.events (line_at history.now.lines)
         (Ok text.items)) }
@@ -28,12 +36,13 @@ pub fn replay(alloc: Global, script: &Script, history: &History) -> Result<Vec<u
 {
     match enter_all(alloc, script, history) {
         Err(fault) => Err(fault),
-        Ok(hall) => answer(alloc, script, history, &hall),
+        Ok(hall) => answer(rt, alloc, script, history, &hall),
     }
 }
 
 /// What is answered where a hall has entered all events.
-fn answer(
+fn answer<R: Threads + Sync>(
+    rt: &R,
     alloc: Global,
     script: &Script,
     history: &History,
@@ -58,11 +67,30 @@ fn answer(
     match have_posts(alloc, script, history.events()) {
         Err(_) => Err(ReplayFault::OutOfMemory),
         Ok(false) => Err(ReplayFault::NotComplete),
-        Ok(true) => match replies(alloc, hall, script) {
+        Ok(true) => match replies_of(rt, alloc, script, history, hall) {
             Err(_) => Err(ReplayFault::OutOfMemory),
             Ok(text) => Ok(text),
         },
     }
+}
+
+/// The replies to a script that a hall has run, made by as many threads as its history has workers; of one worker without
+/// a thread.
+fn replies_of<R: Threads + Sync>(
+    rt: &R,
+    alloc: Global,
+    script: &Script,
+    history: &History,
+    hall: &Hall,
+) -> Result<Vec<u8>, AllocError>
+    requires { (workers : ℕ) × HasRun workers script.now hall.now }
+    ensures { IfOk result (λ v. v.items ≡ replies script.now hall.now.events) }
+{
+    let workers = history.workers();
+    if workers == 1 {
+        return replies(alloc, hall, script);
+    }
+    replies_by(rt, alloc, hall, script, workers)
 }
 
 /// Enters all events of a history into a hall, each Revise with the script's revision.

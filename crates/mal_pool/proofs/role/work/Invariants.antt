@@ -1,8 +1,8 @@
-use Rattle.std.proofs.Common.{◌≡◌, ◌++◌, List}
-use Rattle.mal_hall.specs.Desks.{DeskCall}
+use Rattle.std.proofs.Common.{◌≡◌, ◌-◌}
+use Rattle.mal_pool.specs.Making.{HasLooped}
 use Rattle.mal_pool.proofs.role.work.Given as goal
 
-abbrev pub invariant-loop : goal.invariant-loop
-invariant-loop g l =
+abbrev pub invariant-loop-made : goal.invariant-loop-made
+invariant-loop-made g l =
     g.B.Desk.is_of l.board l.pass
-    × ((mine : List DeskCall) × (g.B.Desk.calls l.pass ≡ g.B.Desk.calls l.fn.pass ++ mine))
+    × HasLooped (g.G.Gate.stops l.gate) l.number 1048576 33 (33 - l._made) (g.B.Desk.calls l.fn.pass) (g.B.Desk.calls l.pass)

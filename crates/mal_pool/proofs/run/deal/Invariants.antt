@@ -1,5 +1,5 @@
 use Rattle.std.specs.List.{All}
-use Rattle.mal_pool.specs.Runs.{Fits}
+use Rattle.mal_pool.specs.Parts.{Fits}
 use Rattle.mal_pool.proofs.run.deal.Given as goal
 
 abbrev pub invariant-loop-part : goal.invariant-loop-part

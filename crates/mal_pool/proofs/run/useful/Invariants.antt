@@ -1,5 +1,5 @@
 use Rattle.std.proofs.Common.{◌≡◌, ◌≤◌, take}
-use Rattle.mal_pool.specs.Runs.{demand_of}
+use Rattle.mal_pool.specs.Parts.{demand_of}
 use Rattle.mal_pool.proofs.run.useful.Given as goal
 
 abbrev pub invariant-loop-job : goal.invariant-loop-job
