@@ -1,11 +1,16 @@
 //! The program `mal`, over the standard streams.
 #![tactic(auto)]
 
+ghost use Rattle.std.specs.Prelude.{◌≡◌, [], IfErr, IsNone, IsSomeAnd};
+ghost use Rattle.std.specs.IoError.{error_kind};
+ghost use Rattle.std.specs.declared.io.ErrorKind.TheVariants.{InvalidData};
+
 use mal_cli::top;
 use mal_io::{StdSink, StdSource};
 use mal_pool::PlainGate;
-use std::env;
-use std::io::ErrorKind;
+use std::alloc::Global;
+use std::env::{self, Args};
+use std::io::{self, ErrorKind};
 use std::process::ExitCode;
 
 /// The exit status where memory runs out before the words are known.
@@ -13,13 +18,7 @@ const OUT_OF_MEMORY: u8 = 6;
 
 fn main(rt: HostRuntime) -> ExitCode {
     let alloc = rt.alloc();
-    let words = match env::args(&rt) {
-        Ok(args) => args.collect::<Vec<String>>(alloc),
-        // Where a word is not UTF-8, the words ask for nothing, as no words do.
-        Err(error) if error.kind() == ErrorKind::InvalidData => Ok(Vec::new(alloc)),
-        Err(_) => return ExitCode::from(OUT_OF_MEMORY),
-    };
-    let Ok(words) = words else {
+    let Some(words) = words_of(alloc, env::args(&rt)) else {
         return ExitCode::from(OUT_OF_MEMORY);
     };
     let mut source = StdSource::new(rt.stdin());
@@ -34,4 +33,17 @@ fn main(rt: HostRuntime) -> ExitCode {
         &mut log,
         &PlainGate,
     ))
+}
+
+/// The program's words, which are its arguments. Where one of these is not UTF-8 there are none, and no words ask for
+/// nothing. None where the arguments are not to be had for another cause, and where memory runs out.
+fn words_of(alloc: Global, args: io::Result<Args>) -> Option<Vec<String>>
+    ensures no_text { IfErr args (λ e. error_kind e ≡ InvalidData → IsSomeAnd result (λ w. w.items ≡ [])) }
+    ensures no_words { IfErr args (λ e. (error_kind e ≡ InvalidData → ⊥) → IsNone result) }
+{
+    match args {
+        Ok(all) => all.collect::<Vec<String>>(alloc).ok(),
+        Err(error) if error.kind() == ErrorKind::InvalidData => Some(Vec::new(alloc)),
+        Err(_) => None,
+    }
 }

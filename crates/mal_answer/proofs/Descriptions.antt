@@ -11,7 +11,7 @@ use Rattle.spec_script.specs.Script.{Scripted, spelling}
 use Rattle.mal_json.specs.ReadResult.{Tells}
 use Rattle.mal_answer.specs.Answers.{IsAnswerTo, TellsDescriptionFault, logged}
 use Rattle.mal_answer.specs.Command.{Refuses, Denies}
-use Rattle.mal_answer.specs.Commands.{describing}
+use Rattle.mal_answer.specs.Commands.{describing, nowhere}
 use Rattle.mal_answer.specs.declared.answer.Complaint.{Complaint}
 use Rattle.mal_answer.specs.declared.answer.Texts.{Texts}
 use Rattle.mal_answer.proofs.Complaints.{refused-as}
@@ -24,7 +24,7 @@ described text s t spelled again silent written = (s, spelled, record { silent =
 
 -- a line that tells the fault of reading tells the first one
 first : (text line : List ℕ) (e : JsonFault) → json.read_text served text ≡ Err e → line ≡ fault_line e → Refuses describing text line
-first text line e h t = refuses describing (are-lawful Json) text line (e, h, t)
+first text line e h t = refuses describing (are-lawful nowhere Json) text line (e, h, t)
 
 told : (text line : List ℕ) (e : JsonFault) → (e ≢ OutOfMemory → json.read_text served text ≡ Err e) → Tells e line → Refuses describing text line
 told text line NotJson h t = first text line NotJson (h (λ q. cc)) t

@@ -1,5 +1,5 @@
 -- What is known of every command, by its kind.
-use Rattle.std.proofs.Common.{ℕ, List, true≢false, Err}
+use Rattle.std.proofs.Common.{◌≡◌, ℕ, List, true≢false, Err, refl}
 use Rattle.std.specs.Prelude.{Option}
 use Rattle.mal_account.proofs.ReadLemmas.{spelled-is-read as account-read}
 use Rattle.mal_claim.proofs.ReadLemmas.{spelled-is-read as claim-read}
@@ -11,11 +11,12 @@ use Rattle.spec_script.specs.Limits.{served}
 use Rattle.spec_text.specs.Faults.{Fails, TellsBy}
 use Rattle.mal_answer.specs.Answers.{Complains, IsAnswerTo, NoLine}
 use Rattle.mal_answer.specs.Command.{Command, Denies, Grammar, IsLawful, IsRead, Refuses, TellsFaultOf, judging, making, reading}
-use Rattle.mal_answer.specs.Commands.{accounts, claims, core_inputs, descriptions, max_inputs, scripts}
+use Rattle.mal_answer.specs.Commands.{Stops, accounts, claims, command_of, core_inputs, descriptions, max_inputs, reads, scripts}
 use Rattle.mal_answer.specs.Laws.{AreLawful, HaveOwnWords}
 use Rattle.mal_answer.specs.declared.answer.Complaint.{Complaint}
 use Rattle.mal_answer.proofs.Meanings.{check-words, cluster-words, core-words, gen-words, gen_run-words, json-words, max-words, replay-words, run-words}
 use Rattle.mal_answer.specs.Forms.{Form}
+use Rattle.mal_answer.specs.declared.words.request.Request.{Request}
 use Rattle.mal_answer.specs.declared.words.request.Request.TheVariants.{Run, Check, Replay, Generate, RunGenerated, Json, Cluster, Max, Core}
 use Rattle.mal_answer.proofs.Complaints.{fault-refused, read-faulty}
 
@@ -68,26 +69,38 @@ core_inputs-read text w is = (core-read text w).0 is
 
 -- so it is for each command of the program
 pub are-lawful : AreLawful
-are-lawful (Run workers) = reading-lawful _ _ _ scripts-read
-are-lawful Check = judging-lawful _ _ _ _ _ claims-read (λ text log out g. (g.0.claim, g.0.spelled, g.0.proved))
-are-lawful Replay = judging-lawful _ _ _ _ _ accounts-read (λ text log out g. (g.0, g.1, (g.2.events, g.2.legal, g.2.complete)))
-are-lawful (Generate seed jobs) = making-lawful _ _
-are-lawful (RunGenerated seed jobs workers) = making-lawful _ _
-are-lawful Json = reading-lawful _ _ _ descriptions-read
-are-lawful (Cluster halls workers every) = reading-lawful _ _ _ scripts-read
-are-lawful (Max slices) = reading-lawful _ _ _ max_inputs-read
-are-lawful (Core slices) = reading-lawful _ _ _ core_inputs-read
+are-lawful stops (Run workers) = reading-lawful _ _ _ scripts-read
+are-lawful stops Check = judging-lawful _ _ _ _ _ claims-read (λ text log out g. (g.0.claim, g.0.spelled, g.0.proved))
+are-lawful stops Replay = judging-lawful _ _ _ _ _ accounts-read (λ text log out g. (g.0, g.1, (g.2.events, g.2.legal, g.2.complete)))
+are-lawful stops (Generate seed jobs) = making-lawful _ _
+are-lawful stops (RunGenerated seed jobs workers) = making-lawful _ _
+are-lawful stops Json = reading-lawful _ _ _ descriptions-read
+are-lawful stops (Cluster halls workers every) = reading-lawful _ _ _ scripts-read
+are-lawful stops (Max slices) = reading-lawful _ _ _ max_inputs-read
+are-lawful stops (Core slices) = reading-lawful _ _ _ core_inputs-read
 
 pub have-own_words : HaveOwnWords
-have-own_words (Run workers) = run-words workers
-have-own_words Check = check-words
-have-own_words Replay = replay-words
-have-own_words (Generate seed jobs) = gen-words seed jobs
-have-own_words (RunGenerated seed jobs workers) = gen_run-words seed jobs workers
-have-own_words Json = json-words
-have-own_words (Cluster halls workers every) = cluster-words halls workers every
-have-own_words (Max slices) = max-words slices
-have-own_words (Core slices) = core-words slices
+have-own_words stops (Run workers) = run-words workers
+have-own_words stops Check = check-words
+have-own_words stops Replay = replay-words
+have-own_words stops (Generate seed jobs) = gen-words seed jobs
+have-own_words stops (RunGenerated seed jobs workers) = gen_run-words seed jobs workers
+have-own_words stops Json = json-words
+have-own_words stops (Cluster halls workers every) = cluster-words halls workers every
+have-own_words stops (Max slices) = max-words slices
+have-own_words stops (Core slices) = core-words slices
+
+-- wherever workers are stopped, a request reads an input or none
+pub has_input-is : (stops : Stops) (r : Request) → (command_of stops r).has_input ≡ reads r
+has_input-is stops (Run workers) = refl
+has_input-is stops Check = refl
+has_input-is stops Replay = refl
+has_input-is stops (Generate seed jobs) = refl
+has_input-is stops (RunGenerated seed jobs workers) = refl
+has_input-is stops Json = refl
+has_input-is stops (Cluster halls workers every) = refl
+has_input-is stops (Max slices) = refl
+has_input-is stops (Core slices) = refl
 
 -- a line that tells the first fault of a text refuses it
 pub refuses : (c : Command) → IsLawful c → (text line : List ℕ) → c.TellsFirst text line → Refuses c text line

@@ -1,12 +1,12 @@
 -- What the steps of a command answer.
 use Rattle.std.specs.Prelude.{◌≡◌, ℕ, Bool, true, false, List, [], ◌⊎◌, Result, Ok, Err, flat_map, map}
 use Rattle.mal_answer.specs.Command.{Command, Refuses, Denies}
-use Rattle.mal_answer.specs.Commands.{running}
+use Rattle.mal_answer.specs.Commands.{nowhere, running}
 use Rattle.mal_answer.specs.Devices.{Device, Failed, Gave, GaveTooMuch, AreSilent, WroteWhole, WrotePart, Complained, too_long_line}
 use Rattle.mal_answer.specs.declared.answer.Complaint.{Complaint}
 use Rattle.mal_answer.specs.declared.answer.Complaint.TheVariants as complaint
 use Rattle.mal_answer.specs.declared.answer.Texts.{Texts}
-use Rattle.mal_answer.specs.Summaries.{summary_line}
+use Rattle.mal_answer.specs.Summaries.{lines_summary}
 use Rattle.mal_hall.specs.HallView.{HallView}
 use Rattle.mal_history.specs.Text.{history_text}
 use Rattle.mal_json.specs.ReadResult as json
@@ -48,6 +48,19 @@ IsUnread source (complaint.Refused line) = ⊥
 IsUnread source (complaint.Denied line) = ⊥
 IsUnread source complaint.OutOfMemory = Unit {0}
 
+-- the count of faults of a source stayed, unless the complaint is that it failed
+abbrev pub StayedBut : Device → Complaint → Type 0
+StayedBut source complaint.Unread = Unit {0}
+StayedBut source complaint.TooLong = source.faults_now ≡ source.faults
+StayedBut source (complaint.Refused line) = source.faults_now ≡ source.faults
+StayedBut source (complaint.Denied line) = source.faults_now ≡ source.faults
+StayedBut source complaint.OutOfMemory = source.faults_now ≡ source.faults
+
+-- the same, unless what is answered is that complaint
+abbrev pub StayedCalm : {A : Type 0} → Device → Result A Complaint → Type 0
+StayedCalm source (Ok x) = source.faults_now ≡ source.faults
+StayedCalm source (Err e) = StayedBut source e
+
 -- what a command reads of a source, by whether it has an input: all that it gives to its end, or nothing
 abbrev pub IsInput : Bool → Device → List ℕ → Type 0
 IsInput true source text = Gave source text
@@ -87,7 +100,7 @@ IsConcluded log out (Err complaint.OutOfMemory) status = (status ≡ 6) × AreSi
 
 -- the complaint about a text that spells no script: the line tells its first fault, or memory ran out
 abbrev pub IsScriptRefusal : List ℕ → Complaint → Type 0
-IsScriptRefusal text complaint = Complains (Refuses (running 1) text) NoLine complaint
+IsScriptRefusal text complaint = Complains (Refuses (running nowhere 1) text) NoLine complaint
 
 -- the complaint tells a fault of a script, or memory ran out
 abbrev pub TellsScriptFault : ScriptFault → Complaint → Type 0
@@ -97,7 +110,7 @@ TellsScriptFault fault complaint = Complains (Tells fault) NoLine complaint
 abbrev pub TellsDescriptionFault : JsonFault → Complaint → Type 0
 TellsDescriptionFault fault complaint = Complains (json.Tells fault) NoLine complaint
 
--- the log of a run, with the summary of its replies for the output
+-- the log of a run, with the summary of the lines of its replies for the output
 abbrev pub IsSummaryOf : ℕ → List ℕ → List ℕ → Result Texts Complaint → Type 0
-IsSummaryOf jobs log replies (Ok texts) = (logged texts.log.items ≡ log) × (texts.out.items ≡ summary_line jobs replies)
+IsSummaryOf jobs log replies (Ok texts) = (logged texts.log.items ≡ log) × (texts.out.items ≡ lines_summary jobs replies)
 IsSummaryOf jobs log replies (Err complaint) = Complains NoLine NoLine complaint

@@ -6,7 +6,7 @@ use Rattle.mal_claim.specs.declared.fault.ClaimFault.{ClaimFault}
 use Rattle.mal_answer.specs.Answers.{Complains, NoLine}
 use Rattle.mal_answer.specs.Commands.{IsProved}
 use Rattle.mal_answer.specs.declared.answer.Complaint.{Complaint}
-use Rattle.mal_claim.specs.declared.checking.VerifyFault.{VerifyFault}
+use Rattle.mal_claim.specs.declared.denial.VerifyFault.{VerifyFault}
 use Rattle.mal_claim.specs.Proofs.{verdict_of}
 use Rattle.mal_claim.specs.Claims.{Claim}
 use Rattle.mal_claim.specs.FaultLines.{fault_line, verdict_line}
@@ -22,7 +22,3 @@ TellsRefusal fault complaint = Complains NoLine (TellsVerdict (verdict_in fault)
 -- the line tells why a claim is not verified
 abbrev pub TellsUnproved : Claim → List ℕ → Type 0
 TellsUnproved c line = (IsProved c → ⊥) × (line ≡ verdict_line (verdict_of c.formula.clauses c.assumptions c.lines))
-
--- why a claim is not verified
-abbrev pub IsUnverified : Claim → Complaint → Type 0
-IsUnverified c complaint = Complains NoLine (TellsUnproved c) complaint

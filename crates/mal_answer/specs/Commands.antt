@@ -1,6 +1,6 @@
 -- The commands of the program, each a value.
-use Rattle.std.specs.Prelude.{◌≡◌, ◌⊎◌, ℕ, true, List, [], ◌∷◌, slice_get, codes, Some, Ok}
-use Rattle.std.specs.List.{list_all}
+use Rattle.std.specs.Prelude.{◌≡◌, ◌⊎◌, ℕ, Bool, true, false, List, [], ◌∷◌, slice_get, codes, Some, Ok}
+use Rattle.std.specs.List.{list_all, list_any}
 use Rattle.mal_history.specs.Written.{line_at}
 use Rattle.mal_answer.specs.Forms.{check_form, cluster_form, core_form, gen_form, json_form, max_form, replay_form, run_form}
 use Rattle.mal_answer.specs.declared.words.request.Request.{Request}
@@ -44,6 +44,7 @@ use Rattle.spec_logic.specs.Refutation.{IsRefutation}
 use Rattle.spec_max.specs.Optimum as spec_max
 use Rattle.spec_run.specs.Replayed.{IsLegal, IsLacking, IsRefusedAt, IsReplied}
 use Rattle.spec_run.specs.Complete.{IsComplete, key_of_job, script_events}
+use Rattle.spec_run.specs.Losses.{LosesLate, is_loss}
 use Rattle.spec_run.specs.Run.{IsRun, job_replies}
 use Rattle.mal_base.specs.declared.line_fault.LineFault.{LineFault}
 use Rattle.spec_script.specs.FaultLines.{fault_line}
@@ -53,7 +54,7 @@ use Rattle.spec_script.specs.Reading.{read_text}
 use Rattle.spec_script.specs.Script.{ScriptedJob, Scripted, spelling}
 use Rattle.spec_text.specs.Lines.{line_of}
 use Rattle.mal_answer.specs.Command.{Command, Grammar, judging, making, reading}
-use Rattle.mal_answer.specs.Summaries.{summary_line}
+use Rattle.mal_answer.specs.Summaries.{all_told, summary_line}
 
 -- a script was run with so many workers: these are the texts of the history and of the replies; a run of one worker is
 -- sequential, so the script decides it
@@ -61,6 +62,32 @@ pub record IsRunOf (workers : ℕ) (s : Scripted) (log out : List ℕ) : Type 0 
   pub history : List Event
   pub run : IsRun workers s history log out
   pub alone : workers ≡ 1 → IsDriven workers (script_events s) history
+
+-- where workers are stopped: before a slice or, where true, after it, of a start of this number, a worker of this number
+abbrev pub Stops : Type 0
+Stops = Bool → ℕ → ℕ → Bool
+
+-- nowhere
+abbrev pub nowhere : Stops
+nowhere after start worker = false
+
+-- some worker is stopped somewhere
+abbrev pub StopsSomewhere : Stops → Type 0
+StopsSomewhere stops = (after : Bool) × (start worker : ℕ) × (stops after start worker ≡ true)
+
+-- a script was run with so many workers, which are stopped there: leases are lost only where some worker is stopped
+-- somewhere, and behind the first loss only the first worker starts nodes
+pub record IsStoppedRunOf (stops : Stops) (workers : ℕ) (s : Scripted) (log out : List ℕ) : Type 0 where
+  pub ran : IsRunOf workers s log out
+  pub lost : list_any is_loss ran.history ≡ true → StopsSomewhere stops
+  pub late : LosesLate ran.history
+
+-- a script was run with so many workers, which are stopped there: this is the text of the history, and the line for so
+-- many jobs that says how many of the replies tell a model, how many a refutation, and how many that the answer is unknown
+pub record IsCountedRun (stops : Stops) (workers jobs : ℕ) (s : Scripted) (log out : List ℕ) : Type 0 where
+  pub replies : List ℕ
+  pub run : IsStoppedRunOf stops workers s log replies
+  pub counted : out ≡ summary_line jobs (all_told s run.ran.history)
 
 -- the lines of a claim's proof refute its formula under its assumptions
 abbrev pub IsProved : Claim → Type 0
@@ -143,9 +170,9 @@ pub record IsClusterRunOf (halls workers every : ℕ) (s : Scripted) (log out : 
   pub run : IsClusterRun halls workers every s rounds end log out
   pub singles : SinglesAreAlike s end
 
--- `run`: a script is run with so many workers
-abbrev pub running : ℕ → Command
-running workers = reading run_form scripts (λ s log out. IsRunOf workers s log out)
+-- `run`: a script is run with so many workers, which are stopped there
+abbrev pub running : Stops → ℕ → Command
+running stops workers = reading run_form scripts (λ s log out. IsStoppedRunOf stops workers s log out)
 
 -- `check`: the proof of a claim is a refutation
 abbrev pub checking : Command
@@ -163,9 +190,8 @@ abbrev pub generating : ℕ → ℕ → Command
 generating seed jobs = making gen_form (λ log out. (log ≡ []) × (out ≡ spelling (generated seed jobs)))
 
 -- `gen` with workers: that script is run
-abbrev pub running_generated : ℕ → ℕ → ℕ → Command
-running_generated seed jobs workers = making gen_form (λ log out.
-    (replies : List ℕ) × IsRunOf workers (generated seed jobs) log replies × (out ≡ summary_line jobs replies))
+abbrev pub running_generated : Stops → ℕ → ℕ → ℕ → Command
+running_generated stops seed jobs workers = making gen_form (IsCountedRun stops workers jobs (generated seed jobs))
 
 -- `json`: the script that a description spells is written
 abbrev pub describing : Command
@@ -183,14 +209,22 @@ optimizing slices = reading max_form max_inputs (IsOptimized slices)
 abbrev pub minimizing : ℕ → Command
 minimizing slices = reading core_form core_inputs (IsMinimized slices)
 
--- the command that is asked for
-abbrev pub command_of : Request → Command
-command_of (Run workers) = running workers
-command_of Check = checking
-command_of Replay = replaying
-command_of (Generate seed jobs) = generating seed jobs
-command_of (RunGenerated seed jobs workers) = running_generated seed jobs workers
-command_of Json = describing
-command_of (request.Cluster halls workers every) = clustering halls workers every
-command_of (Max slices) = optimizing slices
-command_of (Core slices) = minimizing slices
+-- the command that is asked for, where workers are stopped there
+abbrev pub command_of : Stops → Request → Command
+command_of stops (Run workers) = running stops workers
+command_of stops Check = checking
+command_of stops Replay = replaying
+command_of stops (Generate seed jobs) = generating seed jobs
+command_of stops (RunGenerated seed jobs workers) = running_generated stops seed jobs workers
+command_of stops Json = describing
+command_of stops (request.Cluster halls workers every) = clustering halls workers every
+command_of stops (Max slices) = optimizing slices
+command_of stops (Core slices) = minimizing slices
+
+-- whether a request reads an input
+abbrev pub reads : Request → Bool
+reads request = (command_of nowhere request).has_input
+
+-- a request without an input
+abbrev pub ReadsNothing : Request → Type 0
+ReadsNothing request = reads request ≡ false

@@ -93,7 +93,3 @@ done_by false c source log out status = HasMade c log out status
 
 abbrev pub HasDone : Command → Device → Device → Device → ℕ → Type 0
 HasDone c source log out status = done_by c.has_input c source log out status
-
--- a command without an input
-abbrev pub ReadsNothing : Command → Type 0
-ReadsNothing c = c.has_input ≡ false

@@ -15,6 +15,7 @@ pub record HasExamples : Type 0 where
   pub cluster : Means (codes "mal" ∷ codes "cluster" ∷ codes "--every=1000" ∷ codes "--halls" ∷ codes "2" ∷ codes "--workers=1" ∷ []) (Cluster 2 1 1000)
   pub max : Means (codes "mal" ∷ codes "max" ∷ codes "--slices" ∷ codes "4096" ∷ []) (Max 4096)
   pub core : Means (codes "mal" ∷ codes "core" ∷ codes "--slices=1" ∷ []) (Core 1)
+  pub no_words : MeansNothing []
   pub nothing : MeansNothing (codes "mal" ∷ [])
   pub unknown : MeansNothing (codes "mal" ∷ codes "fly" ∷ [])
   pub no_slices : MeansNothing (codes "mal" ∷ codes "max" ∷ [])

@@ -1,13 +1,11 @@
 //! Checking the proof of a claim.
 
-ghost use Rattle.std.specs.Prelude.{◌≡◌, [], IfOk, IfErr, OnOk};
-ghost use Rattle.mal_claim.specs.ReadResult.{seen};
-ghost use Rattle.mal_answer.specs.{Answers.{IsAnswerTo, logged}, Commands.{IsProved, checking}, Claims.{TellsFault, TellsRefusal, IsUnverified}};
+ghost use Rattle.std.specs.Prelude.{◌≡◌, [], IfOk};
+ghost use Rattle.mal_answer.specs.{Answers.{IsAnswerTo, logged}, Commands.{checking}, Claims.{TellsFault, TellsRefusal}};
 ghost use Rattle.mal_claim.specs.FaultLines.{verified_line};
-ghost use Rattle.spec_logic.specs.Logic.{IsUnsatisfiable};
 
 use crate::answer::{Complaint, Texts};
-use mal_claim::{ClaimFault, VerifyFault, fault_line, read, verdict_line, verify};
+use mal_claim::{ClaimFault, Denial, VerifyFault, fault_line, verdict_line};
 use std::alloc::{AllocError, Global};
 
 /// Checks the proof of the claim that a text spells: nothing for the log, and the line `s VERIFIED` for the output.
@@ -15,34 +13,13 @@ use std::alloc::{AllocError, Global};
 pub fn check(alloc: Global, text: Vec<u8>) -> Result<Texts, Complaint>
     ensures { IsAnswerTo checking text.items result }
 {
-    match read(alloc, text.as_slice()) {
-        Ok(claim) => {
-            drop(text);
-            judge(alloc, claim)
-        }
-        Err(fault) => Err(no_claim(alloc, fault)),
-    }
-}
-
-/// Checks the proof of a claim.
-#[tactic(auto, using(crate::proofs::Denials::denial_lemmas))]
-fn judge(alloc: Global, claim: mal_claim::Claim) -> Result<Texts, Complaint>
-    ensures proved { OnOk result (IsProved (seen claim)) }
-    ensures unsatisfiable { OnOk result (IsUnsatisfiable claim.formula.clauses claim.assumptions.items) }
-    ensures texts { IfOk result (λ t. (logged t.log.items ≡ []) × (t.out.items ≡ verified_line)) }
-    ensures denied { IfErr result (λ e. IsUnverified (seen claim) e) }
-{
-    let mal_claim::Claim {
-        formula,
-        assumptions,
-        lines,
-    } = claim;
-    match verify(alloc, &formula, assumptions.as_slice(), lines) {
+    match mal_claim::check(alloc, text.as_slice()) {
         Ok(()) => match verified(alloc) {
             Ok(texts) => Ok(texts),
             Err(_) => Err(Complaint::OutOfMemory),
         },
-        Err(fault) => Err(no_proof(alloc, fault)),
+        Err(Denial::NoClaim { fault }) => Err(no_claim(alloc, fault)),
+        Err(Denial::NotVerified { fault }) => Err(no_proof(alloc, fault)),
     }
 }
 

@@ -18,7 +18,10 @@ pub use checking::check;
 pub use concluding::{BAD_WORDS, OUT_OF_MEMORY, complain, conclude};
 pub use describing::describe;
 pub use generating::generate_text;
-pub use laws::{commands_are_lawful, commands_have_own_words, run_replays};
+pub use laws::{
+    commands_are_lawful, commands_have_own_words, none_is_lost_unstopped, replies_are_counted,
+    run_replays,
+};
 pub use reading::input;
 pub use scripts::script_of;
 pub use summary::summarized;

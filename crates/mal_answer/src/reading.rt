@@ -1,7 +1,7 @@
 //! Reading a command's input.
 
 ghost use Rattle.std.specs.Prelude.{◌≡◌, IfOk, IfErr};
-ghost use Rattle.mal_answer.specs.{Answers.{IsInput, IsMissed, IsUnread}, Commands.{command_of}, Devices.{Gave, device}, Served.{ReadsNothing}};
+ghost use Rattle.mal_answer.specs.{Answers.{IsInput, IsMissed, IsUnread, StayedCalm}, Commands.{ReadsNothing, reads}, Devices.{Gave, device}};
 
 use crate::answer::Complaint;
 use crate::words::Request;
@@ -15,17 +15,18 @@ const LIMIT: u32 = 67_108_864;
 /// then the source is as before.
 ///
 /// Errors: `Unread` only where the source failed, `TooLong` exactly where one byte more than the limit was taken,
-/// `OutOfMemory` at any time.
+/// `OutOfMemory` at any time. The source's count of faults stays in all cases but `Unread`.
 pub fn input<S: Source>(
     alloc: Global,
     request: Request,
     source: &mut S,
 ) -> Result<Vec<u8>, Complaint>
     ensures given { IfOk result
-        (λ v. IsInput (command_of request).has_input (device S.left S.faults source.old source.new) v.items) }
+        (λ v. IsInput (reads request) (device S.left S.faults source.old source.new) v.items) }
     ensures missed { IfErr result
-        (λ e. IsMissed (command_of request).has_input (device S.left S.faults source.old source.new) e) }
-    ensures unread { ReadsNothing (command_of request) → source.new ≡ source.old }
+        (λ e. IsMissed (reads request) (device S.left S.faults source.old source.new) e) }
+    ensures unread { ReadsNothing request → source.new ≡ source.old }
+    ensures calm { StayedCalm (device S.left S.faults source.old source.new) result }
 {
     if has_input(request) {
         return all_of(alloc, source);
@@ -35,7 +36,7 @@ pub fn input<S: Source>(
 
 /// Whether a command has an input.
 fn has_input(request: Request) -> bool
-    ensures { result ≡ (command_of request).has_input }
+    ensures { result ≡ reads request }
 {
     match request {
         Request::Generate { .. } => false,
@@ -48,6 +49,7 @@ fn has_input(request: Request) -> bool
 fn all_of<S: Source>(alloc: Global, source: &mut S) -> Result<Vec<u8>, Complaint>
     ensures gave { IfOk result (λ v. Gave (device S.left S.faults source.old source.new) v.items) }
     ensures unread { IfErr result (λ e. IsUnread (device S.left S.faults source.old source.new) e) }
+    ensures calm { StayedCalm (device S.left S.faults source.old source.new) result }
 {
     match read_all(alloc, source, LIMIT) {
         Ok(text) => Ok(text),

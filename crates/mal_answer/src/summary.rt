@@ -1,7 +1,7 @@
 //! The summary of a run's replies.
 
 ghost use Rattle.std.specs.Prelude.{◌≡◌, ◌≤◌, bytes_eq, if◌then◌else◌, IfOk};
-ghost use Rattle.mal_answer.specs.{Answers.{IsSummaryOf, logged}, Summaries.{lines_that_are, summary_line}};
+ghost use Rattle.mal_answer.specs.{Answers.{IsSummaryOf, logged}, Summaries.{lines_summary, lines_that_are}};
 
 use crate::answer::{Complaint, Texts};
 use itoa::Buffer;
@@ -20,9 +20,9 @@ pub fn summarized(alloc: Global, jobs: u32, ran: Texts) -> Result<Texts, Complai
 
 /// The line `g N sat A unsat B unknown C` of so many jobs and the replies to them: A of them are satisfiable, B
 /// unsatisfiable and C unknown.
-#[tactic(auto, unfolding(crate::specs::Summaries::summary_line))]
+#[tactic(auto, unfolding(crate::specs::Summaries::lines_summary))]
 fn summary(alloc: Global, jobs: u32, replies: &[u8]) -> Result<Vec<u8>, AllocError>
-    ensures { IfOk result (λ v. v.items ≡ summary_line jobs replies.now) }
+    ensures { IfOk result (λ v. v.items ≡ lines_summary jobs replies.now) }
 {
     let mut number = Buffer::new();
     let mut satisfiable = Buffer::new();

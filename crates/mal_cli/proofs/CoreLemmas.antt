@@ -10,7 +10,7 @@ use Rattle.mal_core.specs.Reading.{read_text}
 use Rattle.mal_core.specs.Texts.{minimal_text}
 use Rattle.mal_answer.proofs.Lawful.{are-lawful, fault-answered}
 use Rattle.mal_answer.specs.Answers.{IsAnswerTo, logged}
-use Rattle.mal_answer.specs.Commands.{IsMinimized, core_inputs, minimizing}
+use Rattle.mal_answer.specs.Commands.{IsMinimized, core_inputs, minimizing, nowhere}
 use Rattle.mal_answer.specs.declared.answer.Complaint.{Complaint}
 use Rattle.mal_answer.specs.declared.answer.Texts.{Texts}
 use Rattle.mal_answer.specs.declared.words.request.Request.TheVariants.{Core}
@@ -26,7 +26,7 @@ minimal-answered slices text w t spelled given = (w, spelled, given)
 
 -- a text with a first fault spells no instance, and the line tells it
 pub core-refused : (slices : ℕ) (text : List ℕ) (e : InputFault) (c : Complaint) → Fails (fault_of e) (read_text text) → TellsCoreFault e c → IsAnswerTo (minimizing slices) text (Err c)
-core-refused slices text e c h k = fault-answered (minimizing slices) core_inputs (are-lawful (Core slices)) (λ text line told. told) text (fault_of e) c h k
+core-refused slices text e c h k = fault-answered (minimizing slices) core_inputs (are-lawful nowhere (Core slices)) (λ text line told. told) text (fault_of e) c h k
 
 pub ruleset found_lemmas = (minimal-written)
 

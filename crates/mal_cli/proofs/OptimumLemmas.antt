@@ -10,7 +10,7 @@ use Rattle.mal_max.specs.Reading.{read_text}
 use Rattle.mal_max.specs.Texts.{optimum_text}
 use Rattle.mal_answer.proofs.Lawful.{are-lawful, fault-answered}
 use Rattle.mal_answer.specs.Answers.{IsAnswerTo, logged}
-use Rattle.mal_answer.specs.Commands.{IsOptimized, max_inputs, optimizing}
+use Rattle.mal_answer.specs.Commands.{IsOptimized, max_inputs, optimizing, nowhere}
 use Rattle.mal_answer.specs.declared.answer.Complaint.{Complaint}
 use Rattle.mal_answer.specs.declared.answer.Texts.{Texts}
 use Rattle.mal_answer.specs.declared.words.request.Request.TheVariants.{Max}
@@ -26,7 +26,7 @@ optimum-answered slices text w t spelled given = (w, spelled, given)
 
 -- a text with a first fault spells no instance, and the line tells it
 pub max-refused : (slices : ℕ) (text : List ℕ) (e : InputFault) (c : Complaint) → Fails (fault_of e) (read_text text) → TellsMaxFault e c → IsAnswerTo (optimizing slices) text (Err c)
-max-refused slices text e c h k = fault-answered (optimizing slices) max_inputs (are-lawful (Max slices)) (λ text line told. told) text (fault_of e) c h k
+max-refused slices text e c h k = fault-answered (optimizing slices) max_inputs (are-lawful nowhere (Max slices)) (λ text line told. told) text (fault_of e) c h k
 
 pub ruleset found_lemmas = (optimum-written)
 

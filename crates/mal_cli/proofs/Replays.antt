@@ -6,7 +6,7 @@ use Rattle.mal_account.specs.ReadResult.{fault_of}
 use Rattle.mal_cli.specs.Accounts.{IsReplayText, IsUnsound, TellsFault, TellsReplay}
 use Rattle.mal_answer.specs.Answers.{IsAnswerTo, NoLine}
 use Rattle.mal_answer.specs.Command.{Refuses, Denies}
-use Rattle.mal_answer.specs.Commands.{IsSound, TellsUnsound, accounts, replaying}
+use Rattle.mal_answer.specs.Commands.{IsSound, TellsUnsound, accounts, replaying, nowhere}
 use Rattle.mal_answer.specs.declared.answer.Complaint.{Complaint}
 use Rattle.mal_answer.proofs.Complaints.{denied-as, read-once}
 use Rattle.mal_answer.proofs.Lawful.{are-lawful, fault-answered}
@@ -23,7 +23,7 @@ use Rattle.spec_run.specs.Run.{replies}
 
 -- a text with a first fault is no account, and the line tells it
 pub account-refused : (text : List ℕ) (e : AccountFault) (c : Complaint) → Fails (fault_of e) (read_text text) → TellsFault e c → IsAnswerTo replaying text (Err c)
-account-refused text e c h k = fault-answered replaying accounts (are-lawful Replay) (λ text line told. told) text (fault_of e) c h k
+account-refused text e c h k = fault-answered replaying accounts (are-lawful nowhere Replay) (λ text line told. told) text (fault_of e) c h k
 
 -- an account with a fault is not sound
 unsound : (a : Account) (fault : ReplayFault) → IsReplay a.history.workers a.script a.history.events (line_at a.history.lines) (Err fault) → (fault ≡ OutOfMemory → ⊥) → IsSound a → ⊥

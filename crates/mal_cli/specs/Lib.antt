@@ -3,3 +3,4 @@ pub mod Calls
 pub mod Clusters
 pub mod Inputs
 pub mod Laws
+pub mod Stopping

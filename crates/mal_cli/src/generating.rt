@@ -2,6 +2,7 @@
 
 ghost use Rattle.std.specs.Prelude.{◌<◌, ◌≤◌, ◌^◌, List, ℕ};
 ghost use Rattle.mal_answer.specs.{Answers.{IsAnswerTo}, Commands.{running_generated}};
+ghost use Rattle.mal_cli.specs.Stopping.{stops_of};
 
 use crate::running::run_script;
 use mal_answer::{Complaint, Texts, summarized};
@@ -25,7 +26,7 @@ pub fn run_generated<R: Threads + Wait + Sync, G: Gate>(
     requires bound { jobs ≤ 256 }
     requires some_workers { 1 ≤ workers }
     requires workers_bound { workers ≤ 64 }
-    ensures { (text : List ℕ) → IsAnswerTo (running_generated seed jobs workers) text result }
+    ensures { (text : List ℕ) → IsAnswerTo (running_generated (stops_of (G.stops gate.now)) seed jobs workers) text result }
 {
     let Ok(script) = generate(alloc, seed, jobs) else {
         return Err(Complaint::OutOfMemory);

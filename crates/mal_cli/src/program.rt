@@ -1,7 +1,8 @@
 //! The program from its words and its devices to its exit status.
 
 ghost use Rattle.std.specs.Prelude.{◌≡◌, ◌⊎◌, map, string_bytes};
-ghost use Rattle.mal_answer.specs.{Answers.{IsAnswer, IsAnswerTo}, Commands.{command_of}, Devices.{AreSilent, Complained, device}, Requests.{IsRequest, Means, MeansNothing}, Served.{HasDone, ReadsNothing}, Usage.{usage_line}, declared.words.request.Request.{Request}};
+ghost use Rattle.mal_answer.specs.{Answers.{IsAnswer, IsAnswerTo, StayedCalm}, Commands.{ReadsNothing, command_of}, Devices.{AreSilent, Complained, device}, Requests.{IsRequest, Means, MeansNothing}, Served.{HasDone}, Usage.{usage_line}, declared.words.request.Request.{Request}};
+ghost use Rattle.mal_cli.specs.Stopping.{stops_of};
 
 use crate::clusters::run_clustered;
 use crate::cores::minimize;
@@ -38,7 +39,7 @@ use std::thread::Threads;
 /// | 0 | done |
 /// | 2 | exactly where the words ask for nothing; the log gains the usage line |
 /// | 3 | the input is above 2^26 bytes or not in the command's grammar; the log gains the line that says so, or the first fault and its line |
-/// | 4 | only where the source failed; nothing is written |
+/// | 4 | only where the source failed, and with any other status it did not; nothing is written |
 /// | 5 | only where a sink failed; what was written is a front of the log's text and then of the output's |
 /// | 6 | memory ran out; nothing is written |
 /// | 7 | the input is in the grammar, and its proof is no refutation, or its history not legal or not complete; the log gains the line that says why |
@@ -55,7 +56,7 @@ pub fn top<R: Threads + Wait + Sync, S: Source, K: Sink, L: Sink, G: Gate>(
 ) -> u8
     // What the words ask for is done, and the status says how far.
     ensures done { (r : Request) → Means (map string_bytes words.now) r
-        → HasDone (command_of r) (device S.left S.faults source.old source.new) (device L.got L.faults log.old log.new)
+        → HasDone (command_of (stops_of (G.stops gate.now)) r) (device S.left S.faults source.old source.new) (device L.got L.faults log.old log.new)
         (device K.got K.faults out.old out.new) result }
     // Status 2 comes only where the words ask for nothing, and there nothing else comes, unless memory runs out.
     ensures usage { result ≡ 2 → MeansNothing (map string_bytes words.now) }
@@ -66,8 +67,10 @@ pub fn top<R: Threads + Wait + Sync, S: Source, K: Sink, L: Sink, G: Gate>(
         → AreSilent (device L.got L.faults log.old log.new) (device K.got K.faults out.old out.new) }
     // The source is as before where the words ask for nothing, and where they ask for a script that is made.
     ensures unread { MeansNothing (map string_bytes words.now) → source.new ≡ source.old }
-    ensures made_unread { (r : Request) → Means (map string_bytes words.now) r → ReadsNothing (command_of r)
+    ensures made_unread { (r : Request) → Means (map string_bytes words.now) r → ReadsNothing r
         → source.new ≡ source.old }
+    // A source that failed is told: with any status but 4 its count of faults stays.
+    ensures calm { (result ≡ 4 → ⊥) → S.faults source.new ≡ S.faults source.old }
 {
     match request_of(alloc, words) {
         Ok(Some(request)) => serve(rt, alloc, request, source, out, log, gate),
@@ -90,9 +93,10 @@ fn serve<R: Threads + Wait + Sync, S: Source, K: Sink, L: Sink, G: Gate>(
     gate: &G,
 ) -> u8
     requires { IsRequest request }
-    ensures done { HasDone (command_of request) (device S.left S.faults source.old source.new)
+    ensures done { HasDone (command_of (stops_of (G.stops gate.now)) request) (device S.left S.faults source.old source.new)
         (device L.got L.faults log.old log.new) (device K.got K.faults out.old out.new) result }
-    ensures made_unread { ReadsNothing (command_of request) → source.new ≡ source.old }
+    ensures made_unread { ReadsNothing request → source.new ≡ source.old }
+    ensures calm { (result ≡ 4 → ⊥) → S.faults source.new ≡ S.faults source.old }
 {
     conclude(answer_to(rt, alloc, request, source, gate), out, log)
 }
@@ -107,8 +111,9 @@ fn answer_to<R: Threads + Wait + Sync, S: Source, G: Gate>(
     gate: &G,
 ) -> Result<Texts, Complaint>
     requires { IsRequest request }
-    ensures answer { IsAnswer (command_of request) (device S.left S.faults source.old source.new) result }
-    ensures made_unread { ReadsNothing (command_of request) → source.new ≡ source.old }
+    ensures answer { IsAnswer (command_of (stops_of (G.stops gate.now)) request) (device S.left S.faults source.old source.new) result }
+    ensures made_unread { ReadsNothing request → source.new ≡ source.old }
+    ensures calm { StayedCalm (device S.left S.faults source.old source.new) result }
 {
     let text = input(alloc, request, source)?;
     answer(rt, alloc, request, text, gate)
@@ -123,12 +128,12 @@ fn answer<R: Threads + Wait + Sync, G: Gate>(
     gate: &G,
 ) -> Result<Texts, Complaint>
     requires { IsRequest request }
-    ensures { IsAnswerTo (command_of request) text.items result }
+    ensures { IsAnswerTo (command_of (stops_of (G.stops gate.now)) request) text.items result }
 {
     match request {
         Request::Run { workers } => run_text(rt, alloc, workers, text, gate),
         Request::Check => check(alloc, text),
-        Request::Replay => replay_text(alloc, text),
+        Request::Replay => replay_text(rt, alloc, text),
         Request::Json => describe(alloc, text),
         Request::Cluster {
             halls,

@@ -14,16 +14,21 @@ use mal_answer::{Complaint, Texts};
 use mal_replay::{ReplayFault, replay};
 use mal_text::put_line;
 use std::alloc::{AllocError, Global};
+use std::thread::Threads;
 
 /// Replays the history of the account that a text spells: nothing for the log, and the replies for the output.
 #[tactic(auto, using(crate::proofs::Replays::replay_lemmas))]
-pub fn replay_text(alloc: Global, text: Vec<u8>) -> Result<Texts, Complaint>
+pub fn replay_text<R: Threads + Sync>(
+    rt: &R,
+    alloc: Global,
+    text: Vec<u8>,
+) -> Result<Texts, Complaint>
     ensures { IsAnswerTo replaying text.items result }
 {
     match read(alloc, text.as_slice()) {
         Ok(account) => {
             drop(text);
-            judge(alloc, &account)
+            judge(rt, alloc, &account)
         }
         Err(fault) => Err(no_account(alloc, fault)),
     }
@@ -31,12 +36,12 @@ pub fn replay_text(alloc: Global, text: Vec<u8>) -> Result<Texts, Complaint>
 
 /// Replays the history of an account.
 #[tactic(auto, using(crate::proofs::Replays::judge_lemmas))]
-fn judge(alloc: Global, account: &Account) -> Result<Texts, Complaint>
+fn judge<R: Threads + Sync>(rt: &R, alloc: Global, account: &Account) -> Result<Texts, Complaint>
     ensures replies { IfOk result (λ t. AreReplies (seen account.now) t.out.items) }
     ensures silent { IfOk result (λ t. logged t.log.items ≡ []) }
     ensures denied { IfErr result (λ e. IsUnsound (seen account.now) e) }
 {
-    match replay(alloc, &account.script, &account.history) {
+    match replay(rt, alloc, &account.script, &account.history) {
         Ok(out) => Ok(Texts {
             log: Vec::new(alloc),
             out,

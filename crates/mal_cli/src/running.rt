@@ -1,7 +1,8 @@
 //! Running a script.
 
 ghost use Rattle.std.specs.Prelude.{◌≡◌, ◌≤◌, ℕ, IfOk};
-ghost use Rattle.mal_answer.specs.{Answers.{IsAnswerTo, logged}, Commands.{IsRunOf, running}};
+ghost use Rattle.mal_answer.specs.{Answers.{IsAnswerTo, logged}, Commands.{IsStoppedRunOf, Stops, running}};
+ghost use Rattle.mal_cli.specs.Stopping.{stops_of};
 ghost use Rattle.mal_pool.specs.Posts.{HasRun};
 ghost use Rattle.spec_run.specs.Run.{IsRun, replies};
 ghost use Rattle.spec_script.specs.Script.{Scripted};
@@ -26,7 +27,7 @@ pub fn run_text<R: Threads + Wait + Sync, G: Gate>(
 ) -> Result<Texts, Complaint>
     requires some { 1 ≤ workers }
     requires bound { workers ≤ 64 }
-    ensures { IsAnswerTo (running workers) text.items result }
+    ensures { IsAnswerTo (running (stops_of (G.stops gate.now)) workers) text.items result }
 {
     let script = script_of(alloc, text)?;
     match run_script(rt, alloc, &script, workers, gate) {
@@ -45,7 +46,8 @@ pub fn run_script<R: Threads + Wait + Sync, G: Gate>(
 ) -> Result<Texts, AllocError>
     requires some { 1 ≤ workers }
     requires bound { workers ≤ 64 }
-    ensures { IfOk result (λ t. IsRunOf workers script.now (logged t.log.items) t.out.items) }
+    ensures { IfOk result
+        (λ t. IsStoppedRunOf (stops_of (G.stops gate.now)) workers script.now (logged t.log.items) t.out.items) }
 {
     if workers == 1 {
         return run_script_alone(alloc, script);
@@ -55,7 +57,7 @@ pub fn run_script<R: Threads + Wait + Sync, G: Gate>(
 
 /// Runs a script with one worker, and makes the texts of its history and its replies.
 fn run_script_alone(alloc: Global, script: &Script) -> Result<Texts, AllocError>
-    ensures { IfOk result (λ t. IsRunOf 1 script.now (logged t.log.items) t.out.items) }
+    ensures { (stops : Stops) → IfOk result (λ t. IsStoppedRunOf stops 1 script.now (logged t.log.items) t.out.items) }
 {
     let hall = run_alone(alloc, script, 1)?;
     let out = replies(alloc, &hall, script)?;
@@ -72,7 +74,8 @@ fn run_script_served<R: Threads + Wait + Sync, G: Gate>(
 ) -> Result<Texts, AllocError>
     requires some { 2 ≤ workers }
     requires bound { workers ≤ 64 }
-    ensures { IfOk result (λ t. IsRunOf workers script.now (logged t.log.items) t.out.items) }
+    ensures { IfOk result
+        (λ t. IsStoppedRunOf (stops_of (G.stops gate.now)) workers script.now (logged t.log.items) t.out.items) }
 {
     let hall = run_served(rt, alloc, script, workers, gate)?;
     let out = replies_by(rt, alloc, &hall, script, workers)?;

@@ -47,8 +47,11 @@ impl<S: Size + Send + Sync> Desk for Served<S> {
 impl<S: Size + Send + Sync> Board for Served<S> {
     ghost use Rattle.mal_turn.specs.Tokens.{view};
     ghost use Rattle.mal_turn.specs.Rule.{IsWhole};
+    ghost use Rattle.mal_service.specs.Passes.{LeavesHall};
 
     ghost is_whole = { λ pass. IsWhole (view pass).of };
+
+    ghost leaves = { λ pass history. LeavesHall S.workers history (view pass) };
 
     fn post<R: Wait>(&self, rt: &R, pass: Pass<S>, post: Post) -> (Pass<S>, Result<(), PostFault>) {
         self.service.post(rt, pass, post)

@@ -8,8 +8,8 @@ use mal_revision::Revision;
 use std::alloc::Global;
 
 /// The name of these bytes.
-fn name(alloc: Global, text: &[u8]) -> Option<Name> {
-    Name::of(alloc, text).ok()?
+fn name(text: &[u8]) -> Option<Name> {
+    Name::of(text)
 }
 
 /// The literals of these DIMACS numbers.
@@ -39,24 +39,24 @@ fn open(alloc: Global, cluster: &mut Cluster, hall: u32, job: &[u8]) -> Option<(
     if hall == 0 || hall as usize > cluster.hall_count() {
         return None;
     }
-    let tenant = name(alloc, b"a")?;
-    let job = name(alloc, job)?;
+    let tenant = name(b"a")?;
+    let job = name(job)?;
     let ask = Ask::of(1, 1, 4)?;
     cluster.open_job(hall, tenant, job, ask).ok()
 }
 
 /// Posts a revision of the job p of tenant a.
 fn post(alloc: Global, cluster: &mut Cluster, clause: &[i32], assumptions: &[i32]) -> Option<()> {
-    let tenant = name(alloc, b"a")?;
-    let job = name(alloc, b"p")?;
+    let tenant = name(b"a")?;
+    let job = name(b"p")?;
     let revision = revision(alloc, clause, assumptions)?;
     cluster.revise_job(&tenant, &job, revision).ok()
 }
 
 /// Closes the job p of tenant a.
 fn close(alloc: Global, cluster: &mut Cluster) -> Option<()> {
-    let tenant = name(alloc, b"a")?;
-    let job = name(alloc, b"p")?;
+    let tenant = name(b"a")?;
+    let job = name(b"p")?;
     cluster.close_job(&tenant, &job).ok()
 }
 
@@ -95,8 +95,8 @@ fn goes_on(alloc: Global, cluster: &mut Cluster, first: &[u8], second: &[u8]) ->
 
 /// What is answered to a move of a job of tenant a to the hall of a number, None where it is made.
 fn fault(alloc: Global, cluster: &mut Cluster, job: &[u8], to: u32) -> Option<Option<MoveFault>> {
-    let tenant = name(alloc, b"a")?;
-    let job = name(alloc, job)?;
+    let tenant = name(b"a")?;
+    let job = name(job)?;
     Some(cluster.move_job(&tenant, &job, to).err())
 }
 

@@ -44,7 +44,7 @@ fn begin(alloc: Global, slices: u32) -> Result<Inquiry, AllocError>
     ensures key { IfOk result (λ i. i.key ≡ key) }
     ensures inquiry { IfOk result (λ i. IsInquiry key (one_solver slices) [] i.events) }
 {
-    let Some(name) = Name::of(alloc, b"max")? else {
+    let Some(name) = Name::of(b"max") else {
         unreachable!();
     };
     let Some(ask) = Ask::of(1, 1, i64::from(slices)) else {

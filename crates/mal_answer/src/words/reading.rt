@@ -1,7 +1,8 @@
 //! Reading the words.
 
-ghost use Rattle.std.specs.Prelude.{◌≡◌, IfOk, IfSome, Some, codes, map, option_map, string_bytes};
+ghost use Rattle.std.specs.Prelude.{◌≡◌, IfOk, IfSome, OnErr, None, Some, codes, map, option_map, string_bytes};
 ghost use Rattle.clap.specs.Words.{first_of, found_of, rows_of, subcommand_rows_of};
+ghost use Rattle.clap.specs.declared.error.kind.ErrorKind.TheVariants.{OutOfMemory};
 ghost use Rattle.mal_answer.specs.{Forms.{cluster_form, cluster_of, core_form, gen_form, generate_of, max_form, number_in, run_form}, Requests.{IsRequest, asked, asked_in}, Found.{IsMeaning}};
 
 use crate::words::command::command;
@@ -21,10 +22,19 @@ pub fn request_of(alloc: Global, words: &[String]) -> Result<Option<Request>, Al
     let command = command(alloc)?;
     match command.try_get_matches_from(words) {
         Ok(matches) => Ok(request_in(&matches)),
-        Err(error) => match error.kind() {
-            ErrorKind::OutOfMemory => Err(AllocError),
-            _ => Ok(None),
-        },
+        Err(error) => refused(error.kind()),
+    }
+}
+
+/// What words that the command line refuses ask for: nothing. It is want of memory exactly where the command line wanted
+/// for memory. Takes no memory.
+fn refused(kind: ErrorKind) -> Result<Option<Request>, AllocError>
+    ensures nothing { IfOk result (λ o. (o ≡ None) × (kind ≡ OutOfMemory → ⊥)) }
+    ensures memory { OnErr result (kind ≡ OutOfMemory) }
+{
+    match kind {
+        ErrorKind::OutOfMemory => Err(AllocError),
+        _ => Ok(None),
     }
 }
 

@@ -36,6 +36,7 @@ returns c = record {
   core = by _ (Core 1) refl refl (refl, (omega arith, omega arith, refl));
   gen = by _ (Generate 0 4) refl refl (refl, refl, (omega arith, omega arith, refl), (omega arith, omega arith, refl));
   gen_run = by _ (RunGenerated 1 4 2) refl refl (refl, (omega arith, omega arith, refl), (omega arith, omega arith, refl), (omega arith, omega arith, refl));
+  no_words = refused _ _ _ refl;
   nothing = refused _ _ _ refl;
   unknown = refused _ _ _ refl;
   no_slices = refused _ _ _ refl;
