@@ -75,7 +75,7 @@ fn run_often<R: Threads + Wait + Sync + Abort>(
         let ran = run(rt, alloc, workers, text.as_slice(), &PlainGate)?;
         assert_eq!(rt; ran.status, 0);
         assert!(rt; ran.out.as_slice().starts_with(known.as_slice()));
-        let again = replayed(alloc, text.as_slice(), ran.log.as_slice())?;
+        let again = replayed(rt, alloc, text.as_slice(), ran.log.as_slice())?;
         assert_eq!(rt; again.as_slice(), ran.out.as_slice());
         let history = mal_history::read(alloc, ran.log.as_slice())?;
         assert_eq!(rt; losses(&history), 0);

@@ -2,8 +2,6 @@
 
 mod account;
 mod base;
-mod claim;
-mod claim_proof;
 mod dimacs;
 mod history;
 mod history_pieces;

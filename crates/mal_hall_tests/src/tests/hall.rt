@@ -93,8 +93,8 @@ pub(crate) enum Told {
     Wanting,
 }
 
-pub(crate) fn name(alloc: Global, text: &[u8]) -> Option<Name> {
-    Name::of(alloc, text).ok()?
+pub(crate) fn name(text: &[u8]) -> Option<Name> {
+    Name::of(text)
 }
 
 /// One of many names.
@@ -153,7 +153,7 @@ pub(crate) fn revision(alloc: Global, posted: Posted) -> Option<Revision> {
 }
 
 fn open(alloc: Global, hall: &mut Hall, key: Key, ask: Option<Ask>) -> Told {
-    let (Some(tenant), Some(job), Some(ask)) = (name(alloc, key.0), name(alloc, key.1), ask) else {
+    let (Some(tenant), Some(job), Some(ask)) = (name(key.0), name(key.1), ask) else {
         return Told::Wanting;
     };
     match hall.open_job(tenant, job, ask) {
@@ -185,7 +185,7 @@ fn open_tenants(alloc: Global, hall: &mut Hall, tenants: u8) -> Told {
 }
 
 fn revise(alloc: Global, hall: &mut Hall, key: Key, posted: Posted) -> Told {
-    let (Some(tenant), Some(job)) = (name(alloc, key.0), name(alloc, key.1)) else {
+    let (Some(tenant), Some(job)) = (name(key.0), name(key.1)) else {
         return Told::Wanting;
     };
     let Some(revision) = revision(alloc, posted) else {
@@ -209,7 +209,7 @@ fn revise_often(alloc: Global, hall: &mut Hall, times: u32) -> Told {
 }
 
 fn reask(alloc: Global, hall: &mut Hall, key: Key, weight: Option<Weight>) -> Told {
-    let (Some(tenant), Some(job)) = (name(alloc, key.0), name(alloc, key.1)) else {
+    let (Some(tenant), Some(job)) = (name(key.0), name(key.1)) else {
         return Told::Wanting;
     };
     let Some(weight) = weight else {
@@ -230,7 +230,7 @@ fn open_at(alloc: Global, hall: &mut Hall, key: Key, ask: Option<Ask>) -> Told {
 }
 
 fn close(alloc: Global, hall: &mut Hall, key: Key) -> Told {
-    let (Some(tenant), Some(job)) = (name(alloc, key.0), name(alloc, key.1)) else {
+    let (Some(tenant), Some(job)) = (name(key.0), name(key.1)) else {
         return Told::Wanting;
     };
     match hall.close_job(&tenant, &job) {
@@ -348,7 +348,7 @@ pub(crate) fn heard(answer: Result<Option<Vec<u8>>, ReplyFault>, known: &[u8]) -
 }
 
 pub(crate) fn hear(alloc: Global, hall: &Hall, key: Key, r: u32, known: &[u8]) -> Told {
-    let (Some(tenant), Some(job)) = (name(alloc, key.0), name(alloc, key.1)) else {
+    let (Some(tenant), Some(job)) = (name(key.0), name(key.1)) else {
         return Told::Wanting;
     };
     heard(hall.reply(&tenant, &job, r), known)

@@ -46,13 +46,13 @@ fn told_of(alloc: Global, slices: i64, first: Revision, second: Revision) -> Opt
     if !is_small(&first) || !is_small(&second) {
         return None;
     }
-    let (tenant, job) = (name(alloc, b"a")?, name(alloc, b"p")?);
+    let (tenant, job) = (name(b"a")?, name(b"p")?);
     asked_twice(alloc, tenant, job, ask(1, slices, 1)?, first, second).ok()
 }
 
 /// Whether the reply to a revision that tells this is this text.
 fn reads(alloc: Global, r: u32, told: &Told, known: &[u8]) -> bool {
-    let (Some(tenant), Some(job)) = (name(alloc, b"a"), name(alloc, b"p")) else {
+    let (Some(tenant), Some(job)) = (name(b"a"), name(b"p")) else {
         return false;
     };
     match reply(alloc, &tenant, &job, r, 1, told) {

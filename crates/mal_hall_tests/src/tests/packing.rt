@@ -8,8 +8,8 @@ use std::alloc::Global;
 
 /// Opens the job p of tenant a with a revision of two variables.
 fn fill(alloc: Global, hall: &mut Hall) -> Option<()> {
-    let tenant = name(alloc, b"a")?;
-    let job = name(alloc, b"p")?;
+    let tenant = name(b"a")?;
+    let job = name(b"p")?;
     let ask = ask(1, 4, 1)?;
     let revision = revision(alloc, Posted::Clause(&[1, 2], &[]))?;
     hall.open_job(tenant, job, ask).ok()?;
@@ -18,8 +18,8 @@ fn fill(alloc: Global, hall: &mut Hall) -> Option<()> {
 
 /// Why a job of tenant a is not packed, None where it is.
 fn fault(alloc: Global, hall: &Hall, job: &[u8]) -> Option<Option<PackFault>> {
-    let tenant = name(alloc, b"a")?;
-    let job = name(alloc, job)?;
+    let tenant = name(b"a")?;
+    let job = name(job)?;
     Some(hall.pack_job(&tenant, &job).err())
 }
 
@@ -74,8 +74,8 @@ fn lose(hall: &mut Hall) -> Option<()> {
 
 /// Packs the job p of tenant a in one hall, and has the other admit it.
 fn carry(alloc: Global, hall: &Hall, other: &mut Hall) -> Option<()> {
-    let tenant = name(alloc, b"a")?;
-    let job = name(alloc, b"p")?;
+    let tenant = name(b"a")?;
+    let job = name(b"p")?;
     let parcel = hall.pack_job(&tenant, &job).ok()?;
     match other.admit_job(parcel) {
         Ok(()) => Some(()),
@@ -99,8 +99,8 @@ fn drive(alloc: Global, hall: &mut Hall) -> Option<()> {
 
 /// Whether this is the reply to the revision of the job p.
 fn is_reply(alloc: Global, hall: &Hall, known: &[u8]) -> Option<bool> {
-    let tenant = name(alloc, b"a")?;
-    let job = name(alloc, b"p")?;
+    let tenant = name(b"a")?;
+    let job = name(b"p")?;
     let text = hall.reply(&tenant, &job, 1).ok()??;
     Some(text.as_slice() == known)
 }

@@ -41,8 +41,8 @@ impl<'a, R: Wait, S: Size> Caller<'a, R, S> {
 /// The opening of the job p of a tenant.
 fn opening(alloc: Global, tenant: &[u8]) -> Option<Post> {
     Some(Post::Open {
-        tenant: name(alloc, tenant)?,
-        job: name(alloc, b"p")?,
+        tenant: name(tenant)?,
+        job: name(b"p")?,
         ask: ask(1, 4, 1)?,
     })
 }
@@ -50,8 +50,8 @@ fn opening(alloc: Global, tenant: &[u8]) -> Option<Post> {
 /// The posting of a revision of the job p of a tenant.
 fn revising(alloc: Global, tenant: &[u8], revision: Option<Revision>) -> Option<Post> {
     Some(Post::Revise {
-        tenant: name(alloc, tenant)?,
-        job: name(alloc, b"p")?,
+        tenant: name(tenant)?,
+        job: name(b"p")?,
         revision: revision?,
     })
 }
@@ -129,7 +129,7 @@ impl<R: Wait> Caller<'_, R, One> {
         requires { IsOf self.now.service.now.turn pass }
         ensures { IsOf self.now.service.now.turn result.0 }
     {
-        let (Some(tenant), Some(job)) = (name(self.alloc, b"a"), name(self.alloc, job)) else {
+        let (Some(tenant), Some(job)) = (name(b"a"), name(job)) else {
             return (pass, Told::Wanting);
         };
         let (pass, answer) = self.service.ask(self.rt, pass, &tenant, &job, 1);

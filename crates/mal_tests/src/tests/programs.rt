@@ -58,8 +58,13 @@ pub fn run<R: Threads + Wait + Sync, G: Gate>(
 }
 
 /// The replies that the log of a run replays to, for the script of a text.
-pub fn replayed(alloc: Global, text: &[u8], log: &[u8]) -> Result<Vec<u8>, Fail> {
+pub fn replayed<R: Threads + Sync>(
+    rt: &R,
+    alloc: Global,
+    text: &[u8],
+    log: &[u8],
+) -> Result<Vec<u8>, Fail> {
     let script = mal_script::read(alloc, text)?;
     let history = mal_history::read(alloc, log)?;
-    Ok(mal_replay::replay(alloc, &script, &history)?)
+    Ok(mal_replay::replay(rt, alloc, &script, &history)?)
 }

@@ -44,6 +44,8 @@ impl<B: Board> Desk for Slow<B> {
 impl<B: Board> Board for Slow<B> {
     ghost is_whole = { λ pass. B.is_whole pass };
 
+    ghost leaves = { λ pass history. B.leaves pass history };
+
     fn post<R: Wait>(&self, rt: &R, pass: B::Pass, post: Post) -> (B::Pass, Result<(), PostFault>) {
         for _ in 0..self.turns {
             thread::yield_now();

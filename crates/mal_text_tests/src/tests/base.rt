@@ -49,17 +49,17 @@ const NAMES: [(&[u8], bool); 4] = [
 ];
 
 /// Whether these bytes are a name, which then has them.
-fn is_name(alloc: Global, bytes: &[u8]) -> Option<bool> {
-    match Name::of(alloc, bytes).ok()? {
-        None => Some(false),
-        Some(name) => Some(name.as_bytes() == bytes),
+fn is_name(bytes: &[u8]) -> bool {
+    match Name::of(bytes) {
+        None => false,
+        Some(name) => name.as_bytes() == bytes,
     }
 }
 
 #[test]
 fn names_are_small_letters_digits_and_underlines(rt: HostRuntime) {
     for (bytes, known) in &NAMES {
-        assert!(rt; is_name(rt.alloc(), bytes) == Some(*known));
+        assert!(rt; is_name(bytes) == *known);
     }
 }
 

@@ -26,8 +26,8 @@ fn empty_lines_are_counted(rt: HostRuntime) {
 
 /// The events of the job p of the tenant a.
 fn own_events(alloc: Global, history: &History) -> Option<Vec<Event>> {
-    let tenant = name(alloc, b"a")?;
-    let job = name(alloc, b"p")?;
+    let tenant = name(b"a")?;
+    let job = name(b"p")?;
     own(alloc, history, &tenant, &job).ok()
 }
 
@@ -86,9 +86,9 @@ fn own_events_are_those_of_the_job(rt: HostRuntime) {
 
 /// Enters a leave of the job q of the tenant a, then one of the job p, and, where it comes back, its arrival.
 fn enter_moves(history: &mut History, alloc: Global, is_back: bool) -> Option<()> {
-    let tenant = name(alloc, b"a")?;
-    let job = name(alloc, b"p")?;
-    let other = name(alloc, b"q")?;
+    let tenant = name(b"a")?;
+    let job = name(b"p")?;
+    let other = name(b"q")?;
     enter(history, Event::Leave { tenant, job: other })?;
     enter(history, Event::Leave { tenant, job })?;
     if is_back {

@@ -7,8 +7,8 @@ use std::alloc::Global;
 
 /// Enters a thousand events of 34 bytes.
 fn enter_all(history: &mut History, alloc: Global) -> Option<()> {
-    let tenant = name(alloc, b"abcdefghijklmno")?;
-    let job = name(alloc, b"pqrstuvwxyzabcd")?;
+    let tenant = name(b"abcdefghijklmno")?;
+    let job = name(b"pqrstuvwxyzabcd")?;
     for _ in 0..1000 {
         history.reserve(1).ok()?;
         history.push_reserved(Event::Exchange { tenant, job });

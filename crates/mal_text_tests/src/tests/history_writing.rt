@@ -25,8 +25,8 @@ fn finish(tenant: Name, job: Name, index: u32, worker: u32, outcome: Outcome) ->
 
 /// Enters a balancing of no job, two ends and an exchange.
 fn enter_all(history: &mut History, alloc: Global) -> Option<()> {
-    let tenant = name(alloc, b"a")?;
-    let job = name(alloc, b"p")?;
+    let tenant = name(b"a")?;
+    let job = name(b"p")?;
     let volumes = Shares::new(alloc);
     enter(history, Event::Balance { volumes })?;
     enter(history, finish(tenant, job, 3, 2, Outcome::Starved))?;
@@ -59,8 +59,8 @@ fn other_outcomes_are_written(rt: HostRuntime) {
 
 /// Enters an arrival of the job p of the tenant a, and its leave.
 fn enter_moves(history: &mut History, alloc: Global) -> Option<()> {
-    let tenant = name(alloc, b"a")?;
-    let job = name(alloc, b"p")?;
+    let tenant = name(b"a")?;
+    let job = name(b"p")?;
     enter(history, Event::Arrive { tenant, job })?;
     enter(history, Event::Leave { tenant, job })
 }

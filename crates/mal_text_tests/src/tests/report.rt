@@ -10,8 +10,8 @@ fn text(alloc: Global, revision: u32, profile: u32, told: &Told) -> Option<Vec<u
     if profile < 1 || profile > 2 {
         return None;
     }
-    let tenant = name(alloc, b"a")?;
-    let job = name(alloc, b"p")?;
+    let tenant = name(b"a")?;
+    let job = name(b"p")?;
     reply(alloc, &tenant, &job, revision, profile, told).ok()
 }
 

@@ -2,7 +2,7 @@
 
 use mal_account::Account;
 use mal_base::LineFault;
-use mal_claim::{Claim, verdict_line, verify};
+use mal_claim::{Denial, verdict_line};
 use mal_dimacs::DimacsFault;
 use mal_script::line_fault_line;
 use std::alloc::Global;
@@ -69,26 +69,15 @@ fn both(alloc: Global, account: &Account) -> Option<Vec<u8>> {
 }
 
 fn claim(alloc: Global, text: &[u8]) -> Option<Vec<u8>> {
-    match mal_claim::read(alloc, text) {
-        Ok(claim) => verdict(alloc, claim),
-        Err(fault) => mal_claim::fault_line(alloc, fault).ok()?,
-    }
-}
-
-fn verdict(alloc: Global, claim: Claim) -> Option<Vec<u8>> {
-    let Claim {
-        formula,
-        assumptions,
-        lines,
-    } = claim;
-    match verify(alloc, &formula, assumptions.as_slice(), lines) {
+    match mal_claim::check(alloc, text) {
         Ok(()) => Some(Vec::new(alloc)),
-        Err(fault) => verdict_line(alloc, fault).ok()?,
+        Err(Denial::NoClaim { fault }) => mal_claim::fault_line(alloc, fault).ok()?,
+        Err(Denial::NotVerified { fault }) => verdict_line(alloc, fault).ok()?,
     }
 }
 
 /// Texts, with what is told of them.
-const TOLD: [(Grammar, &[u8], &[u8]); 32] = [
+const TOLD: [(Grammar, &[u8], &[u8]); 37] = [
     // Layouts of tools, and the greatest variables.
     (
         Grammar::Formula,
@@ -247,6 +236,33 @@ const TOLD: [(Grammar, &[u8], &[u8]); 32] = [
         Grammar::Claim,
         b"p cnf 0 1\n0\nproof\n",
         b"fault: proof goal\n",
+    ),
+    // A claim with every part, the lines of a reply, a clause that is held no more, an id that stands twice, and a line that
+    // is faulty behind one that is refused.
+    (
+        Grammar::Claim,
+        b"c\np cnf 3 2\n1 -2\n0 3 -3 0\n\na 2 -1 2 0\nc\n proof\t\nl 4 -2 1 0 1 0\n\n4 d 1 0",
+        b"",
+    ),
+    (
+        Grammar::Claim,
+        b"p cnf 2 4\n1 2 0\n1 -2 0\n-1 2 0\n-1 -2 0\nproof\nl 5 1 0 1 2 0\n\nc comment\nl 6 0 5 3 4 0",
+        b"",
+    ),
+    (
+        Grammar::Claim,
+        b"p cnf 2 2\n1 2 0\n1 -2 0\nproof\n5 1 0 1 2 0\n\n5 d 1 0\n999999999999 1 0 1 2 0\n",
+        b"fault: proof line 4 UnknownHint 1\n",
+    ),
+    (
+        Grammar::Claim,
+        b"p cnf 2 2\n1 2 0\n1 -2 0\nproof\n5 1 0 1 2 0\n5 0 0",
+        b"fault: proof line 2 IdNotRising 5 5\n",
+    ),
+    (
+        Grammar::Claim,
+        b"p cnf 2 1\n1 2 0\nproof\n2 0 1 0\n\n3 0\n",
+        b"fault: proof line 3 MissingZero\n",
     ),
 ];
 

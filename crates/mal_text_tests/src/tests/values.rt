@@ -114,6 +114,6 @@ pub fn has_lines(lines: &Lines, rows: &[LineRow]) -> bool {
 }
 
 /// The name of these bytes.
-pub fn name(alloc: Global, bytes: &[u8]) -> Option<Name> {
-    Name::of(alloc, bytes).ok()?
+pub fn name(bytes: &[u8]) -> Option<Name> {
+    Name::of(bytes)
 }

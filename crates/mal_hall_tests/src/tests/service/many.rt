@@ -144,8 +144,7 @@ impl<R: Wait> Caller<'_, R, Sixteen> {
         requires { IsOf self.now.service.now.turn pass }
         ensures { IsOf self.now.service.now.turn result }
     {
-        let (Some(name), Some(job)) = (name(self.alloc, &tenant.letter()), name(self.alloc, b"p"))
-        else {
+        let (Some(name), Some(job)) = (name(&tenant.letter()), name(b"p")) else {
             tenant.is_wrong = true;
             return pass;
         };
