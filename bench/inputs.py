@@ -181,6 +181,30 @@ def write_heavy(out: TextIO, seed: str = "1", revisions: str = "8") -> None:
     questions(out, MOST_VARIABLES, clauses, SLICES, ([-v] for v in range(1, int(revisions) + 1)))
 
 
+def write_compared(out: TextIO, seed: str = "1") -> None:
+    """A job of 2^17 easy clauses over 65,536 variables, which takes many slices: what it has loaded is compared at the end of each."""
+    draw = random.Random(int(seed))
+    script(out, MOST_VARIABLES, 1 << 17, [easy(draw, MOST_VARIABLES, 1 << 17)])
+
+
+def write_six(out: TextIO, seed: str = "1", revisions: str = "200") -> None:
+    """A job of 426 clauses of three literals over 100 variables, which are satisfiable, asked so often under six assumptions."""
+    draw = random.Random(int(seed))
+    clauses = list(planted(draw, 100, 426))
+    asked = ([draw.choice((v, -v)) for v in draw.sample(range(1, 101), 6)] for _ in range(int(revisions)))
+    questions(out, 100, clauses, SLICES, asked)
+
+
+def write_hard_jobs(out: TextIO, seed: str = "1", jobs: str = "64", variables: str = "125") -> None:
+    """So many jobs of a tenant, each of one random formula at 4.26 over so many variables."""
+    print("t t", file=out)
+    for job in range(int(jobs)):
+        count = round(4.26 * int(variables))
+        print(f"j j{job} 1 1 {SLICES}", file=out)
+        block(out, int(variables), count, hard(int(variables), count, 1000 * int(seed) + job))
+        print("a 0\ne", file=out)
+
+
 def write_optimum(out: TextIO, seed: str = "1") -> None:
     """800 clauses of three literals over 200 variables, which are satisfiable, and 128 soft literals."""
     draw = random.Random(int(seed))
@@ -257,6 +281,9 @@ WRITERS: dict[str, tuple[Callable[..., None], str]] = {
     "assumptions": (write_assumptions, ": 65,536 assumptions and no clause, a job"),
     "revisions": (write_revisions, "[SEED [REVISIONS [CLAUSES]]]: 256 revisions of 2,000 easy clauses each, a job"),
     "many": (write_many, ": 4,096 jobs of one clause each"),
+    "compared": (write_compared, "[SEED]: 2^17 easy clauses over 65,536 variables, a job"),
+    "six": (write_six, "[SEED [REVISIONS]]: 426 clauses over 100 variables, asked 200 times under six assumptions, a job"),
+    "hard_jobs": (write_hard_jobs, "[SEED [JOBS [VARIABLES]]]: 64 jobs of random 3-SAT at 4.26 over 125 variables"),
     "moved": (write_moved, "[SEED [JOBS [REVISIONS]]]: 64 jobs of 50 variables that are asked 16 times each"),
     "heavy": (write_heavy, "[SEED [REVISIONS]]: 2^18 easy clauses that are asked about 8 times, a job"),
     "optimum": (write_optimum, "[SEED]: 128 soft literals and 800 clauses over 200 variables, an input of max"),
