@@ -3,3 +3,4 @@ mod Made
 mod Texts
 mod Answered
 mod Rows
+mod Rising

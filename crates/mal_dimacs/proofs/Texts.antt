@@ -1,5 +1,7 @@
 -- The text of a formula, part by part.
-use Rattle.std.proofs.Common.{◌≡◌, ℕ, ◌≤◌, List, [], ◌∷◌, ◌++◌, flat_map, length, codes, Option, None, refl, ap, ap₂, ◌∙◌, sym, append_assoc, take, take_all}
+use Rattle.std.proofs.Common.{◌≡◌, ℕ, ◌≤◌, List, [], ◌∷◌, ◌++◌, flat_map, length, codes, Option, None, Result, Ok, Err, OnErr, refl, ap, ap₂, ◌∙◌, sym, append_assoc, take, drop, take_all, take-append-drop}
+use Rattle.std.proofs.Math.Seq.{take-append_seam}
+use Rattle.std.specs.Io.{StartsWith}
 use Rattle.std.proofs.lemmas.List.Folds.{flat_map-map}
 use Rattle.std.specs.Fmt.{digits}
 use Rattle.spec_text.specs.Lines.{line_of, text_of}
@@ -47,3 +49,14 @@ unfolding spelling
 formula_written old out f v cs p q d e =
     e ∙ ap (λ (bytes : List ℕ). bytes ++ text_of (formula_rows (formula_of v cs))) d
     ∙ ap₂ (λ (n : ℕ) (xs : List (Option (List ℕ))). text_of (formula_rows (formula_of n xs))) p q
+
+-- what stood there stands in front of what begins with it and more
+front_kept : (old more mid now : List ℕ) → mid ≡ old ++ more → StartsWith now mid → StartsWith now old
+front_kept old more mid now e begins =
+    let behind = drop (length mid) now in
+    let whole : now ≡ old ++ (more ++ behind) = sym (take-append-drop (length mid) now) ∙ ap (λ (bytes : List ℕ). bytes ++ behind) (begins ∙ e) ∙ append_assoc old more behind in
+    ap (take (length old)) whole ∙ take-append_seam old (more ++ behind)
+
+pub front_kept_on_err : {T E : Type 0} (r : Result T E) (old more mid now : List ℕ) → mid ≡ old ++ more → StartsWith now mid → OnErr r (StartsWith now old)
+front_kept_on_err (Ok x) old more mid now e begins = tt
+front_kept_on_err (Err x) old more mid now e begins = front_kept old more mid now e begins

@@ -12,7 +12,8 @@ ghost use Rattle.mal_dimacs.specs.declared.fault.DimacsError.TheVariants.{Fault}
 
 use crate::fault::DimacsError;
 use crate::header::counts;
-use crate::words::{is_comment, literal, merge};
+use crate::pending::Pending;
+use crate::words::{is_comment, literal};
 use mal_base::{BlockFault, ClauseList, Formula, LimitKind, Lit, Stage};
 use mal_text::{NumberFault, begins_number, first_word, number, number_in_front};
 use std::alloc::{AllocError, Global};
@@ -28,7 +29,7 @@ pub struct BlockReader {
     clauses: ClauseList,
     found: u64,
     literals: u32,
-    pending: Vec<Lit>,
+    pending: Pending,
     stage: Stage,
 }
 
@@ -37,10 +38,10 @@ impl Model for BlockReader {
 
     ghost Value = { Block };
 
-    ghost view = { λ b. record { variables = b.variables; declared = b.declared; clauses = b.clauses; found = b.found; literals = b.literals; pending = b.pending.items; stage = b.stage } };
+    ghost view = { λ b. record { variables = b.variables; declared = b.declared; clauses = b.clauses; found = b.found; literals = b.literals; pending = b.pending; stage = b.stage } };
 
     ghost invariant = { λ b. IsBlock
-        (record { variables = b.variables; declared = b.declared; clauses = b.clauses; found = b.found; literals = b.literals; pending = b.pending.items; stage = b.stage }) };
+        (record { variables = b.variables; declared = b.declared; clauses = b.clauses; found = b.found; literals = b.literals; pending = b.pending; stage = b.stage }) };
 }
 
 impl BlockReader {
@@ -58,7 +59,7 @@ impl BlockReader {
                 clauses: ClauseList::new(alloc),
                 found: 0,
                 literals: 0,
-                pending: Vec::new(alloc),
+                pending: Pending::new(alloc),
                 stage: Stage::Clauses,
             }),
             Err(fault) => Err(fault),
@@ -176,6 +177,10 @@ impl BlockReader {
             self.take_number(number)?;
             rest = behind;
         }
+        // Most lines end behind their last number.
+        if rest.is_empty() {
+            return Ok(());
+        }
         self.read_words(rest)
     }
 
@@ -232,8 +237,7 @@ impl BlockReader {
         requires bound { nat_abs number ≤ self.old.variables }
         ensures { Leaves result self.new (Ok (record self.old { pending = self.old.pending ++ code_of number ∷ [] })) }
     {
-        self.pending.reserve(1)?;
-        self.pending.push_reserved(literal(number));
+        self.pending.push(literal(number))?;
         Ok(())
     }
 
@@ -241,7 +245,7 @@ impl BlockReader {
     fn close(&mut self) -> Result<(), DimacsError>
         ensures { Leaves result self.new (closed (clause_of self.old.pending) self.old) }
     {
-        let is_clause = merge(self.variables, &mut self.pending);
+        let is_clause = self.pending.merge(self.variables);
         self.add(is_clause)
     }
 
@@ -254,7 +258,7 @@ impl BlockReader {
         ensures full { 16777216 < self.old.literals + size_of (merged is_clause self.old.pending)
             → result ≡ Err (Fault (Limit Literals)) }
     {
-        let size = size_of(is_clause, self.pending.as_slice());
+        let size = size_of(is_clause, self.pending.lits());
         let left = (1 << 24) - self.literals as usize;
         if size > left {
             return Err(DimacsError::Fault(BlockFault::Limit {
@@ -264,7 +268,7 @@ impl BlockReader {
         // Clauses beyond those declared are counted, up to 2^64 - 1, and not kept; they are a fault at the end anyway.
         // Their literals count.
         if self.clauses.len() < self.declared as usize {
-            keep(&mut self.clauses, is_clause, self.pending.as_slice())?;
+            keep(&mut self.clauses, is_clause, self.pending.lits())?;
         }
         self.found = self.found.saturating_add(1);
         self.literals += size as u32;
@@ -285,7 +289,7 @@ impl BlockReader {
                 found: self.found,
             });
         }
-        if !self.pending.is_empty() {
+        if !self.pending.lits().is_empty() {
             return Err(BlockFault::Trailing);
         }
         match Formula::new(self.variables, self.clauses) {

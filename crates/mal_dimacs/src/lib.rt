@@ -5,6 +5,7 @@
 mod block;
 mod fault;
 mod header;
+mod pending;
 mod reading;
 mod words;
 mod writing;

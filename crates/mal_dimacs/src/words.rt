@@ -1,12 +1,10 @@
 //! What a word is, and the literal that a number stands for.
 
-ghost use Rattle.std.specs.Prelude.{◌≡◌, ◌≤◌, true, nat_abs};
-ghost use Rattle.mal_base.specs.Formulas.{is_clause_of, is_within};
+ghost use Rattle.std.specs.Prelude.{◌≡◌, ◌≤◌, nat_abs};
 ghost use Rattle.spec_text.specs.Inputs.{words_of};
-ghost use Rattle.spec_dimacs.specs.{Merged.{clause_of}, Rows.{is_comment, is_passed}, Reading.{code_of}};
-ghost use Rattle.mal_dimacs.specs.Merged.{merged};
+ghost use Rattle.spec_dimacs.specs.{Rows.{is_comment, is_passed}, Reading.{code_of}};
 
-use mal_base::{Clause, Lit};
+use mal_base::{Lit, Var};
 use mal_text::first_word;
 
 /// Whether a word begins a comment.
@@ -25,21 +23,8 @@ pub fn literal(number: i64) -> Lit
     requires bound { nat_abs number ≤ 65536 }
     ensures { result ≡ code_of number }
 {
-    match Lit::of_dimacs(number as i32) {
-        Some(lit) => lit,
-        None => unreachable!(),
-    }
-}
-
-/// Puts literals of the first variables in the order of the clause that they make, each once. Whether they make one:
-/// else they are a tautology. Takes no memory.
-pub fn merge(variables: u32, lits: &mut Vec<Lit>) -> bool
-    requires { is_within variables lits.old.items ≡ true }
-    ensures made { merged result lits.new.items ≡ clause_of lits.old.items }
-    ensures form { is_clause_of variables (merged result lits.new.items) ≡ true }
-    ensures within { is_within variables lits.new.items ≡ true }
-{
-    Clause::merge(lits)
+    let var = Var::of(number.unsigned_abs() as u32);
+    var.literal(number > 0)
 }
 
 /// Whether a line is passed over: it has no word, or is a comment.

@@ -1,6 +1,7 @@
 //! Writing formulas as DIMACS CNF.
 
-ghost use Rattle.std.specs.Prelude.{◌≡◌, ◌<◌, ◌++◌, flat_map, length, get_or, None, IfOk, OnOk};
+ghost use Rattle.std.specs.Prelude.{◌≡◌, ◌<◌, ◌++◌, flat_map, length, get_or, None, IfOk, OnOk, OnErr};
+ghost use Rattle.std.specs.Io.{StartsWith};
 ghost use Rattle.spec_text.specs.Lines.{line_of, text_of};
 ghost use Rattle.spec_dimacs.specs.Written.{clause_words, closed_words, formula_rows, header_words, spelling};
 ghost use Rattle.mal_dimacs.specs.Spaced.{spaced};
@@ -20,20 +21,39 @@ pub fn write(alloc: Global, formula: &Formula) -> Result<Vec<u8>, AllocError>
 }
 
 /// Writes the lines of the formula of these variables and clauses behind a text, as `write` does. Where memory is
-/// refused, some of the lines are written.
+/// refused nothing is written.
 pub fn put_block(out: &mut Vec<u8>, variables: u32, clauses: &ClauseList) -> Result<(), AllocError>
-    ensures { OnOk result
+    ensures written { OnOk result
         (out.new.items
         ≡ out.old.items ++ text_of (formula_rows (record { variables = variables; clauses = clauses.now }))) }
+    ensures unchanged { OnErr result (out.new.items ≡ out.old.items) }
+{
+    let start = out.len();
+    match append_block(out, variables, clauses) {
+        Ok(()) => Ok(()),
+        Err(error) => {
+            out.truncate(start);
+            Err(error)
+        }
+    }
+}
+
+/// Writes the lines of a formula, or, where memory is refused, the beginning of them.
+fn append_block(out: &mut Vec<u8>, variables: u32, clauses: &ClauseList) -> Result<(), AllocError>
+    ensures written { OnOk result
+        (out.new.items
+        ≡ out.old.items ++ text_of (formula_rows (record { variables = variables; clauses = clauses.now }))) }
+    ensures kept { OnErr result (StartsWith out.new.items out.old.items) }
 {
     put_header(out, variables, clauses.len())?;
     put_clauses(out, clauses)?;
     Ok(())
 }
 
-/// Writes a header line.
+/// Writes a header line, or, where memory is refused, the beginning of one.
 fn put_header(out: &mut Vec<u8>, variables: u32, clauses: usize) -> Result<(), AllocError>
-    ensures { OnOk result (out.new.items ≡ out.old.items ++ line_of (header_words variables clauses)) }
+    ensures written { OnOk result (out.new.items ≡ out.old.items ++ line_of (header_words variables clauses)) }
+    ensures kept { OnErr result (StartsWith out.new.items out.old.items) }
 {
     out.extend_from_slice(b"p cnf")?;
     put_decimal(out, u64::from(variables))?;
@@ -42,9 +62,10 @@ fn put_header(out: &mut Vec<u8>, variables: u32, clauses: usize) -> Result<(), A
     Ok(())
 }
 
-/// Writes a line for each clause.
+/// Writes a line for each clause, or, where memory is refused, for some of the first.
 fn put_clauses(out: &mut Vec<u8>, clauses: &ClauseList) -> Result<(), AllocError>
-    ensures { OnOk result (out.new.items ≡ out.old.items ++ flat_map (λ c. line_of (clause_words c)) clauses.now) }
+    ensures written { OnOk result (out.new.items ≡ out.old.items ++ flat_map (λ c. line_of (clause_words c)) clauses.now) }
+    ensures kept { OnErr result (StartsWith out.new.items out.old.items) }
 {
     for place in 0..clauses.len() {
         put_clause(out, clauses, place)?;
@@ -52,10 +73,12 @@ fn put_clauses(out: &mut Vec<u8>, clauses: &ClauseList) -> Result<(), AllocError
     Ok(())
 }
 
-/// Writes the line of the clause at a place, or of a tautology.
+/// Writes the line of the clause at a place, or of a tautology. Where memory is refused nothing is written.
 fn put_clause(out: &mut Vec<u8>, clauses: &ClauseList, place: usize) -> Result<(), AllocError>
     requires { place < length clauses.now }
-    ensures { OnOk result (out.new.items ≡ out.old.items ++ line_of (clause_words (get_or clauses.now place None))) }
+    ensures written { OnOk result
+        (out.new.items ≡ out.old.items ++ line_of (clause_words (get_or clauses.now place None))) }
+    ensures unchanged { OnErr result (out.new.items ≡ out.old.items) }
 {
     match clauses.at(place) {
         None => {
@@ -69,9 +92,25 @@ fn put_clause(out: &mut Vec<u8>, clauses: &ClauseList, place: usize) -> Result<(
     }
 }
 
-/// Writes a line of literals and then a 0 behind a text. Where memory is refused, a part of the line is written.
+/// Writes a line of literals and then a 0 behind a text. Where memory is refused nothing is written.
 pub fn put_closed(out: &mut Vec<u8>, lits: &[Lit]) -> Result<(), AllocError>
-    ensures { OnOk result (out.new.items ≡ out.old.items ++ line_of (closed_words lits.now)) }
+    ensures written { OnOk result (out.new.items ≡ out.old.items ++ line_of (closed_words lits.now)) }
+    ensures unchanged { OnErr result (out.new.items ≡ out.old.items) }
+{
+    let start = out.len();
+    match append_closed(out, lits) {
+        Ok(()) => Ok(()),
+        Err(error) => {
+            out.truncate(start);
+            Err(error)
+        }
+    }
+}
+
+/// Writes a line of literals and then a 0, or, where memory is refused, the beginning of one.
+fn append_closed(out: &mut Vec<u8>, lits: &[Lit]) -> Result<(), AllocError>
+    ensures written { OnOk result (out.new.items ≡ out.old.items ++ line_of (closed_words lits.now)) }
+    ensures kept { OnErr result (StartsWith out.new.items out.old.items) }
 {
     for lit in lits {
         put_literal(out, *lit)?;
@@ -80,9 +119,10 @@ pub fn put_closed(out: &mut Vec<u8>, lits: &[Lit]) -> Result<(), AllocError>
     Ok(())
 }
 
-/// Writes a literal and a space.
+/// Writes a literal and a space, or, where memory is refused, the literal alone or nothing.
 fn put_literal(out: &mut Vec<u8>, lit: Lit) -> Result<(), AllocError>
-    ensures { OnOk result (out.new.items ≡ out.old.items ++ spaced lit) }
+    ensures written { OnOk result (out.new.items ≡ out.old.items ++ spaced lit) }
+    ensures kept { OnErr result (StartsWith out.new.items out.old.items) }
 {
     put_number(out, i64::from(lit.dimacs()))?;
     out.push(b' ')?;
