@@ -5,3 +5,4 @@ mod EntryLemmas
 mod RebuildLemmas
 mod FormLemmas
 mod PackLemmas
+mod LengthLemmas

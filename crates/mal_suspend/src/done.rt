@@ -1,45 +1,51 @@
 //! What came of a lease.
 
-ghost use Rattle.std.specs.Prelude.{◌≡◌, ◌≤◌, [], None, vec_capacity};
+ghost use Rattle.std.specs.Prelude.{◌≡◌, ◌≤◌, [], None, vec_capacity, IfOk, IfErr};
 ghost use Rattle.mal_base.specs.declared.verdict.Outcome.TheVariants.{Ran, Starved};
 ghost use Rattle.spec_job.specs.{Journaled.{replayed, node_of}, Leased.{Tells, model_with}};
-ghost use Rattle.mal_suspend.specs.Kept.{journal_of, is_gone};
+ghost use Rattle.mal_suspend.specs.Kept.{journal_of, is_gone, outcome_by};
 
 use crate::journal::Journal;
-use crate::kept::Kept;
+use crate::kept::{Kept, cooled};
 use crate::packing::packed;
 use crate::suspended::{Solver, Suspended};
+use crate::warm::Warm;
 use mal_base::{Lines, Outcome, Values, Verdict};
 use mal_learn::Scratch;
+use std::alloc::AllocError;
 use std::marker::Model;
 
 /// What came of a lease: the worker, how the start ended, and what is kept of the node; of a start that ran also the
 /// lines of its slice, the verdict and the model. Contracts see them; the type keeps that they are those of the
-/// journal's last slice.
+/// journal's last slice. A start that did not run has the error with which memory for it was refused. What is kept of a
+/// node that ran is its image where that is no longer than `FROZEN_BYTES`; else it says why not.
 #[derive(Drop)]
 pub struct Done {
     worker: u32,
-    outcome: Outcome,
+    cause: Option<AllocError>,
     kept: Kept,
+    warm: Option<Warm>,
     lines: Lines,
     verdict: Option<Verdict>,
     values: Values,
 }
 
 impl Model for Done {
-    ghost use Rattle.mal_suspend.specs.Kept.{finished};
+    ghost use Rattle.mal_suspend.specs.Kept.{finished, outcome_by, IsCooledAfter};
     ghost use Rattle.spec_job.specs.Leased.{Finished, Tells};
 
     ghost Value = { Finished };
 
-    ghost view = { λ d. finished d.worker d.outcome d.kept d.lines.lines d.verdict d.values };
+    ghost view = { λ d. finished d.worker (outcome_by d.cause) d.kept d.lines.lines d.verdict d.values };
 
-    ghost invariant = { λ d. Tells d.outcome (finished d.worker d.outcome d.kept d.lines.lines d.verdict d.values) };
+    ghost invariant = { λ d. Tells (outcome_by d.cause)
+        (finished d.worker (outcome_by d.cause) d.kept d.lines.lines d.verdict d.values)
+        × IsCooledAfter (outcome_by d.cause) d.kept d.warm };
 }
 
 impl Done {
     /// A start that ran: the node with the lines of its slice, its journal, and an empty list with room for the values
-    /// of a model. Takes no memory.
+    /// of a model. The node is frozen where that is cheap and memory for it is there.
     pub fn ran(worker: u32, mut node: Solver, journal: Journal, values: Vec<bool>) -> Done
         requires node { node.state ≡ node_of journal }
         requires lines { node.lines ≡ (replayed journal).lines }
@@ -52,19 +58,20 @@ impl Done {
         let lines = node.take_lines();
         let values = with_model(&node, values);
         let verdict = node.verdict();
-        let kept = Kept::Live(Suspended::of(node, journal));
+        let (kept, warm) = cooled(Suspended::of(node, journal));
         Done {
             worker,
-            outcome: Outcome::Ran,
+            cause: None,
             kept,
+            warm,
             lines,
             verdict,
             values,
         }
     }
 
-    /// A start that wanted for memory. Takes no memory.
-    pub fn starved(worker: u32, kept: Kept) -> Done
+    /// A start that wanted for memory, with the error that says so. Takes no memory.
+    pub fn starved(worker: u32, kept: Kept, cause: AllocError) -> Done
         ensures worker { result.worker ≡ worker }
         ensures outcome { result.outcome ≡ Starved }
         ensures journal { result.journal ≡ journal_of kept }
@@ -73,8 +80,9 @@ impl Done {
         let alloc = kept.journal().allocator();
         Done {
             worker,
-            outcome: Outcome::Starved,
+            cause: Some(cause),
             kept,
+            warm: None,
             lines: Lines::new(alloc),
             verdict: None,
             values: Values::of(Vec::new(alloc)),
@@ -93,7 +101,10 @@ impl Done {
         ensures value { result ≡ self.now.outcome }
         ensures tells { Tells self.now.outcome self.now }
     {
-        self.outcome
+        match self.cause {
+            None => Outcome::Ran,
+            Some(_) => Outcome::Starved,
+        }
     }
 
     /// What is kept of the node.
@@ -135,20 +146,6 @@ impl Done {
         self.values.as_slice()
     }
 
-    /// The same, with the node frozen where that is cheap and memory for it is there.
-    pub fn cooled(self) -> Done
-        ensures { result ≡ self }
-    {
-        Done {
-            worker: self.worker,
-            outcome: self.outcome,
-            kept: self.kept.cooled(),
-            lines: self.lines,
-            verdict: self.verdict,
-            values: self.values,
-        }
-    }
-
     /// The same, with the lines in no more room than they need where memory for that is there; a scratch keeps the room
     /// that they had, for the next slice.
     pub fn packed(self, scratch: &mut Scratch) -> Done
@@ -157,11 +154,24 @@ impl Done {
         let alloc = self.kept.journal().allocator();
         Done {
             worker: self.worker,
-            outcome: self.outcome,
+            cause: self.cause,
             kept: self.kept,
+            warm: self.warm,
             lines: packed(alloc, self.lines, scratch),
             verdict: self.verdict,
             values: self.values,
+        }
+    }
+
+    /// The same where the start ran, else the error with which it wanted for memory.
+    pub fn into_ran(self) -> Result<Done, AllocError>
+        ensures same { IfOk result (λ d. d ≡ self) }
+        ensures ran { IfOk result (λ d. d.outcome ≡ Ran) }
+        ensures starved { IfErr result (λ _. self.outcome ≡ Starved) }
+    {
+        match self.cause {
+            None => Ok(self),
+            Some(cause) => Err(cause),
         }
     }
 

@@ -2,13 +2,15 @@
 
 ghost use Rattle.std.specs.Prelude.{◌≡◌, true, false, IfOk, IfErr};
 ghost use Rattle.spec_job.specs.Journaled.{started};
-ghost use Rattle.mal_suspend.specs.Kept.{journal_of, is_gone, IsSmall};
+ghost use Rattle.mal_suspend.specs.Kept.{journal_of, is_gone, IsCooled};
 
 use crate::frozen::Frozen;
 use crate::journal::Journal;
 use crate::rebuilding::replay;
-use crate::suspended::{Solver, Suspended};
+use crate::suspended::Suspended;
+use crate::warm::Warm;
 use mal_learn::Scratch;
+use std::alloc::AllocError;
 
 /// The greatest length of an image of which the node is kept frozen between two starts: the greatest power of two at
 /// which freezing and thawing cost less than the slice between them. Of a slice they cost 0.49 at an image of 10,012
@@ -70,54 +72,34 @@ impl Kept {
     }
 
     /// The node with its journal; one that is frozen is thawed, and one that is gone is rebuilt. Where memory for that
-    /// is wanting, gives back what was kept, as it was.
-    pub fn wake(self, scratch: &mut Scratch) -> Result<Suspended, Kept>
+    /// is wanting, gives back what was kept, as it was, with the error.
+    pub fn wake(self, scratch: &mut Scratch) -> Result<Suspended, (Kept, AllocError)>
         ensures live { IfOk result (λ s. s ≡ journal_of self) }
-        ensures wanting { IfErr result (λ k. k ≡ self) }
+        ensures wanting { IfErr result (λ e. e.0 ≡ self) }
     {
         match self {
             Kept::Live(suspended) => Ok(suspended),
             Kept::Cold(frozen) => match frozen.thaw() {
                 Ok(suspended) => Ok(suspended),
-                Err((frozen, _)) => Err(Kept::Cold(frozen)),
+                Err((frozen, error)) => Err((Kept::Cold(frozen), error)),
             },
             Kept::Gone(journal) => match replay(&journal, scratch) {
                 Ok(node) => Ok(Suspended::of(node, journal)),
-                Err(_) => Err(Kept::Gone(journal)),
+                Err(error) => Err((Kept::Gone(journal), error)),
             },
         }
     }
-
-    /// The same, frozen where the node is live, its image is no longer than `FROZEN_BYTES`, and memory for it is there.
-    pub fn cooled(self) -> Kept
-        ensures journal { journal_of result ≡ journal_of self }
-        ensures gone { is_gone result ≡ is_gone self }
-    {
-        match self {
-            Kept::Live(suspended) => cool(suspended),
-            Kept::Cold(frozen) => Kept::Cold(frozen),
-            Kept::Gone(journal) => Kept::Gone(journal),
-        }
-    }
 }
 
-/// A node with its journal, frozen where its image is no longer than `FROZEN_BYTES` and memory for it is there.
-fn cool(suspended: Suspended) -> Kept
-    ensures journal { journal_of result ≡ suspended }
-    ensures there { is_gone result ≡ false }
-    ensures small { IsSmall result }
+/// What is kept between two starts of a node that ran: its bytes where they are no more than `FROZEN_BYTES` and memory
+/// for them is there, else the node, and why.
+pub(crate) fn cooled(suspended: Suspended) -> (Kept, Option<Warm>)
+    ensures journal { journal_of result.0 ≡ suspended }
+    ensures there { is_gone result.0 ≡ false }
+    ensures cooled { IsCooled result.0 result.1 }
 {
-    // Such a node is not even tried.
-    if is_large(suspended.node()) {
-        return Kept::Live(suspended);
-    }
     match suspended.freeze_within(FROZEN_BYTES) {
-        Err(suspended) => Kept::Live(suspended),
-        Ok(frozen) => Kept::Cold(frozen),
+        Ok(frozen) => (Kept::Cold(frozen), None),
+        Err((suspended, warm)) => (Kept::Live(suspended), Some(warm)),
     }
-}
-
-/// Whether the image of a node is surely longer than `FROZEN_BYTES`.
-fn is_large(node: &Solver) -> bool {
-    node.variables() as usize > FROZEN_BYTES / 5 || node.clause_count() > FROZEN_BYTES / 12
 }

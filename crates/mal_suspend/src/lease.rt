@@ -1,7 +1,6 @@
 //! Leases of nodes.
 
 ghost use Rattle.std.specs.Prelude.{◌≡◌, IfOk, IfErr};
-ghost use Rattle.mal_base.specs.declared.verdict.Outcome.TheVariants.{Starved};
 ghost use Rattle.spec_job.specs.{Journaled.{replayed, started, and_entries}, Leased.{Becomes, Tells}};
 ghost use Rattle.mal_suspend.specs.{Kept.{journal_of, is_gone}, Replaying.{MayAllReplay}, Starting.{shared_loads, shared_imports, start_entries}};
 
@@ -106,25 +105,23 @@ impl Lease {
 
     /// Works the lease off: thaws a node that is frozen and rebuilds one that is gone, loads, imports and runs a slice,
     /// and freezes the node where that is cheap. It is never refused; where memory is wanting, what comes back has the
-    /// journal as before the start.
+    /// journal as before the start, and the error.
     pub fn work(self, scratch: &mut Scratch) -> Done
         ensures worker { result.worker ≡ self.worker }
         ensures becomes { Becomes result.outcome self result }
         ensures tells { Tells result.outcome result }
     {
         match self.kept.wake(scratch) {
-            Err(kept) => Done::starved(self.worker, kept),
-            Ok(suspended) => self.start.run(suspended, self.worker, scratch).cooled(),
+            Err((kept, error)) => Done::starved(self.worker, kept, error),
+            Ok(suspended) => self.start.run(suspended, self.worker, scratch),
         }
     }
 
-    /// Gives the lease back as one whose start wanted for memory: the journal and the node are as before it. Takes no
-    /// memory.
-    pub fn starved(self) -> Done
-        ensures worker { result.worker ≡ self.worker }
-        ensures outcome { result.outcome ≡ Starved }
-        ensures becomes { Becomes Starved self result }
+    /// Gives up the lease before its start, and away what is kept of the node. Takes no memory.
+    pub fn into_kept(self) -> Kept
+        ensures journal { journal_of result ≡ self.journal }
+        ensures gone { is_gone result ≡ self.gone }
     {
-        Done::starved(self.worker, self.kept)
+        self.kept
     }
 }

@@ -16,6 +16,7 @@ mod packing;
 mod rebuilding;
 mod start;
 mod suspended;
+mod warm;
 
 pub use done::Done;
 pub use entries::Entries;
@@ -27,3 +28,4 @@ pub use lease::Lease;
 pub use rebuilding::rebuild;
 pub use start::Start;
 pub use suspended::{Solver, Suspended};
+pub use warm::Warm;

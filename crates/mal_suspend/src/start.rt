@@ -90,7 +90,7 @@ impl Start {
     {
         let (mut node, journal) = suspended.into_parts();
         match self.make_ready(&mut node, scratch) {
-            Err(_) => Done::starved(worker, Kept::Live(Suspended::of(node, journal))),
+            Err(error) => Done::starved(worker, Kept::Live(Suspended::of(node, journal)), error),
             Ok(()) => {
                 node.run(scratch);
                 Done::ran(worker, node, self.grown, self.values).packed(scratch)

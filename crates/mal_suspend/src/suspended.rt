@@ -1,12 +1,13 @@
 //! A node with its journal.
 
-ghost use Rattle.std.specs.Prelude.{◌≡◌, ◌≤◌, [], length, IfOk, IfErr, IfSome};
+ghost use Rattle.std.specs.Prelude.{◌≡◌, ◌≤◌, ◌<◌, [], length, IfOk, IfErr, IsTrue};
 ghost use Rattle.mal_freeze.specs.Spelling.{image_bytes};
 ghost use Rattle.spec_job.specs.Journaled.{node_of, started};
-ghost use Rattle.mal_suspend.specs.Freezing.{IsFrozen};
+ghost use Rattle.mal_suspend.specs.{Freezing.{IsFrozen}, Kept.{IsBeyond, IsWarm}};
 
 use crate::frozen::Frozen;
 use crate::journal::Journal;
+use crate::warm::Warm;
 use mal_cdcl::Node;
 use mal_freeze::freeze;
 use mal_watch::Watcher;
@@ -98,15 +99,16 @@ impl Suspended {
     }
 
     /// The bytes of the node, with its journal, where they are no more than these and memory for them is there. Else
-    /// gives the node and its journal back, as they were.
-    pub fn freeze_within(self, most: usize) -> Result<Frozen, Suspended>
+    /// gives the node and its journal back, as they were, and says which of the two it was.
+    pub fn freeze_within(self, most: usize) -> Result<Frozen, (Suspended, Warm)>
         ensures frozen { IfOk result (λ f. f ≡ self) }
         ensures short { IfOk result (λ f. length (image_bytes (node_of f)) ≤ most) }
-        ensures kept { IfErr result (λ s. s ≡ self) }
+        ensures kept { IfErr result (λ e. e.0 ≡ self) }
+        ensures warm { IfErr result (λ e. IsWarm most self e.1) }
     {
         match self.bytes_within(most) {
-            None => Err(self),
-            Some(bytes) => Ok(self.with_bytes(bytes)),
+            Err(warm) => Err((self, warm)),
+            Ok(bytes) => Ok(self.with_bytes(bytes)),
         }
     }
 
@@ -119,19 +121,37 @@ impl Suspended {
     }
 
     /// The bytes of the image of the node, where they are no more than these and memory for them is there.
-    fn bytes_within(&self, most: usize) -> Option<Vec<u8>>
-        ensures bytes { IfSome result (λ v. IsFrozen v.items self.now) }
-        ensures short { IfSome result (λ v. length v.items ≤ most) }
+    fn bytes_within(&self, most: usize) -> Result<Vec<u8>, Warm>
+        ensures bytes { IfOk result (λ v. IsFrozen v.items self.now) }
+        ensures short { IfOk result (λ v. length v.items ≤ most) }
+        ensures warm { IfErr result (λ w. IsWarm most self.now w) }
     {
+        // Such a node is not even tried.
+        if self.is_large(most) {
+            return Err(Warm::Large);
+        }
         match self.bytes() {
-            Err(_) => None,
+            Err(error) => Err(Warm::Wanting(error)),
             Ok(bytes) => {
                 if bytes.len() > most {
-                    return None;
+                    return Err(Warm::Large);
                 }
-                Some(bytes)
+                Ok(bytes)
             }
         }
+    }
+
+    /// Whether the image of the node is surely longer than this: it has 5 bytes and more for each variable, and 12 and
+    /// more for each clause.
+    fn is_large(&self, most: usize) -> bool
+        ensures { IsTrue result → IsBeyond most self.now }
+    {
+        // For the proof.
+        let _alloc = self.journal.allocator();
+        if self.node.variables() as usize > most / 5 {
+            return true;
+        }
+        self.node.clause_count() > most / 12
     }
 
     /// The bytes of the image of the node.
