@@ -9,19 +9,22 @@ use Rattle.std.proofs.lemmas.Option.{slice_get-map, slice_get_read}
 use Rattle.mal_base.specs.Asks.{Terms, Weighed}
 use Rattle.mal_base.specs.declared.verdict.Outcome.{Outcome}
 use Rattle.mal_base.specs.declared.verdict.Outcome.TheVariants.{Ran, Starved, Lost}
-use Rattle.mal_hall.specs.Applied.{Enters, HasEntered, IsBackOf, StartsAt, listed_in, listed_last}
+use Rattle.mal_hall.specs.Applied.{Enters, HasEntered, IsBackOf, IsLodged, StartsAt, listed_in, listed_last, unrun}
 use Rattle.mal_hall.specs.Offered.{HasBalanced, HasEnded, HasExchanged, HasStarted, IsFirst, MayEnd, handed_of}
 use Rattle.mal_hall.specs.HallView.{Inside, IsHall, HallView, next_number, out_in}
 use Rattle.mal_history.specs.declared.event.Event as written
 use Rattle.mal_history.specs.declared.event.Event.TheVariants as of
 use Rattle.mal_history.specs.declared.event.Share.{Share}
-use Rattle.mal_job.specs.Finishing.{outcome_of}
+use Rattle.mal_job.specs.Finishing.{MayFinish, MayStarve}
 use Rattle.mal_revision.specs.Posted.{Posted}
+use Rattle.mal_suspend.specs.Kept.{journal_of, is_gone}
+use Rattle.mal_suspend.specs.declared.kept.Kept.{Kept}
 use Rattle.spec_job.specs.Journal.{JournalEntry}
 use Rattle.spec_job.specs.Journaled.{Journaled}
 use Rattle.spec_job.specs.Leased.{Becomes, Finished, Leased}
 use Rattle.spec_job.specs.KeyedJob.{Key, KeyedJob}
-use Rattle.spec_job.specs.Viewed.{IsGrownBy}
+use Rattle.spec_job.specs.SoloMachine.{Lease}
+use Rattle.spec_job.specs.Viewed.{IsGrownBy, JobView}
 use Rattle.spec_hall.specs.Calls.{AnswerTo, Call, Handed, HasCalled, IsCall, Opens, Revises, Reasks, handed, wanted}
 use Rattle.spec_hall.specs.Events.{Event, Open, Revise, Reask, Balance, Start, Finish, Exchange, bare}
 use Rattle.spec_hall.specs.Legal.{Allowed, MayExchange, MayRevise, job_of}
@@ -191,14 +194,14 @@ finish-may past held l outcome (Some d) out is came =
       );
     }
 
-pub finish-entered : (w : ℕ) (past now : List Event) (k : Key) (index worker : ℕ) (l : Leased) (outcome : Outcome) (back : Option Finished) → lease_of worker (leases past) ≡ Some (record { worker = worker; key = k; index = index }) → IsBackOf l outcome back → HasEnded past now worker (outcome_of back) → HasEntered w past (Finish k index worker outcome) now
-finish-entered w past now k index worker l outcome back out came ended =
+pub finish-entered : (w : ℕ) (past now : List Event) (k : Key) (index worker : ℕ) (outcome : Outcome) → lease_of worker (leases past) ≡ Some (record { worker = worker; key = k; index = index }) → HasEnded past now worker outcome → HasEntered w past (Finish k index worker outcome) now
+finish-entered w past now k index worker outcome out ended =
     let held : LeaseOut = record { worker = worker; key = k; index = index } in
     let both : Some ended.lease ≡ Some held = sym ended.out ∙ out in
     let same : ended.lease ≡ held = cc in
     record {
       allowed = out;
-      grown = ended.grown ∙ (ap (λ (h : LeaseOut). past ++ Finish h.key h.index worker (outcome_of back) ∷ []) same ∙ ap (λ (o : Outcome). past ++ Finish k index worker o ∷ []) came.outcome_is);
+      grown = ended.grown ∙ ap (λ (h : LeaseOut). past ++ Finish h.key h.index worker outcome ∷ []) same;
     }
 
 -- a test that fails says that there is no such lease or place
@@ -342,19 +345,37 @@ never-none x k index worker o is out taken none =
     let mine = held-worker x k index worker is out in
     some-inside o _ (lease-inside x k index worker o is mine.low mine.high out taken) none
 
--- and what came of it may end it
-pub back-may : (x m : HallView) (k : Key) (index worker : ℕ) (o : Option Leased) (l : Leased) (outcome : Outcome) (back : Option Finished) → Stands x → lease_of worker (leases x.events) ≡ Some (record { worker = worker; key = k; index = index }) → option_map handed_of o ≡ get_or x.inside (worker - 1) None → o ≡ Some l → IsBackOf l outcome back → m.events ≡ x.events → MayEnd m.events worker back
-back-may x m k index worker o l outcome back is out taken found came events =
+-- it is the one of its worker, as it was handed out
+pub lodged-is : (x m : HallView) (k : Key) (index worker : ℕ) (o : Option Leased) (l : Leased) → Stands x → lease_of worker (leases x.events) ≡ Some (record { worker = worker; key = k; index = index }) → option_map handed_of o ≡ get_or x.inside (worker - 1) None → o ≡ Some l → m.events ≡ x.events → IsLodged m.events worker l
+lodged-is x m k index worker o l is out taken found events =
     let mine = held-worker x k index worker is out in
     let held : LeaseOut = record { worker = worker; key = k; index = index } in
     let handed_is : handed_of l ≡ handed x.events held = handed-inside o l (handed x.events held) (lease-inside x k index worker o is mine.low mine.high out taken) found in
-    subst (λ (h : List Event). MayEnd h worker back) (sym events) (finish-may x.events held l outcome back out handed_is came)
+    subst (λ (h : List Event). IsLodged h worker l) (sym events) (record { held = held; worker_is = refl; out = out; handed_is = handed_is })
 
-pub enters-finish : (x m y : HallView) (k : Key) (index worker : ℕ) (l : Leased) (outcome : Outcome) (back : Option Finished) → Stands x → lease_of worker (leases x.events) ≡ Some (record { worker = worker; key = k; index = index }) → IsBackOf l outcome back → m.workers ≡ x.workers → m.events ≡ x.events → m.inside ≡ slice_set x.inside (worker - 1) None → y.workers ≡ m.workers → y.inside ≡ m.inside → HasEnded m.events y.events worker (outcome_of back) → Enters x (Finish k index worker outcome) y
-enters-finish x m y k index worker l outcome back is out came workers events inside later same ended =
+-- and what came of it may end it
+pub lodged-may : (past : List Event) (worker : ℕ) (l : Leased) (outcome : Outcome) (back : Option Finished) → IsLodged past worker l → IsBackOf l outcome back → MayEnd past worker back
+lodged-may past worker l outcome back lodged came = subst (λ (w : ℕ). MayEnd past w back) lodged.worker_is (finish-may past lodged.held l outcome back lodged.out lodged.handed_is came)
+
+-- so may what is kept of its node, where it wanted for memory
+pub unrun-may : (past : List Event) (worker : ℕ) (l : Leased) (kept : Kept) → IsLodged past worker l → journal_of kept ≡ l.journal → is_gone kept ≡ l.gone → MayEnd past worker (Some (unrun worker kept))
+unrun-may past worker l kept lodged journal gone =
+    let worker_is : worker ≡ l.worker = sym (ap (λ (h : Handed). h.worker) lodged.handed_is ∙ lodged.worker_is) in
+    lodged-may past worker l Starved (Some (unrun worker kept)) lodged (record { outcome_is = refl; comes = (worker_is, (journal, λ g. sym gone ∙ g)) })
+
+-- and nothing, where it is lost
+pub lost-may : (past : List Event) (worker : ℕ) (l : Leased) → IsLodged past worker l → MayEnd past worker None
+lost-may past worker l lodged = lodged-may past worker l Lost None lodged (record { outcome_is = refl; comes = tt })
+
+-- what may end a start that wanted for memory
+pub starve-may : (v : JobView) (index worker : ℕ) (kept : Kept) → MayFinish v index (Some (unrun worker kept)) → MayStarve v index (Some kept)
+starve-may v index worker kept b = record { out = ap (λ (o : Option Lease). is_some o) b.out; own = b.journal }
+
+pub enters-finish : (x m y : HallView) (k : Key) (index worker : ℕ) (outcome : Outcome) → Stands x → lease_of worker (leases x.events) ≡ Some (record { worker = worker; key = k; index = index }) → m.workers ≡ x.workers → m.events ≡ x.events → m.inside ≡ slice_set x.inside (worker - 1) None → y.workers ≡ m.workers → y.inside ≡ m.inside → HasEnded m.events y.events worker outcome → Enters x (Finish k index worker outcome) y
+enters-finish x m y k index worker outcome is out workers events inside later same ended =
     let mine = held-worker x k index worker is out in
-    let here : HasEnded x.events y.events worker (outcome_of back) = subst (λ (h : List Event). HasEnded h y.events worker (outcome_of back)) events ended in
-    let entered : HasEntered x.workers x.events (Finish k index worker outcome) y.events = finish-entered x.workers x.events y.events k index worker l outcome back out came here in
+    let here : HasEnded x.events y.events worker outcome = subst (λ (h : List Event). HasEnded h y.events worker outcome) events ended in
+    let entered : HasEntered x.workers x.events (Finish k index worker outcome) y.events = finish-entered x.workers x.events y.events k index worker outcome out here in
     record {
       workers = later ∙ workers;
       entered = entered;

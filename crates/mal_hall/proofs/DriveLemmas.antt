@@ -1,6 +1,7 @@
 -- What a turn of a hall that is driven leaves.
 use Rattle.std.proofs.Common.{◌≡◌, ℕ, ◌≤◌, Bool, true, false, ◌&&◌, ◌==◌, List, [], ◌∷◌, ◌++◌, length, Some, Ok, Err, inl, inr, refl, sym, ◌∙◌, ap, subst, append_assoc, append-nil}
 use Rattle.std.proofs.lemmas.Bool.{and_parts}
+use Rattle.std.specs.Prelude.{is_some}
 use Rattle.mal_base.specs.declared.verdict.Outcome.{Outcome}
 use Rattle.mal_base.specs.declared.verdict.Outcome.TheVariants.{Ran, Starved, Lost}
 use Rattle.spec_job.specs.Journal.{JournalEntry}
@@ -41,6 +42,12 @@ left-over past home over = by_done (is_done (states past)) (sym (ap (λ (ls : Li
     by_done : (b : Bool) → (b && true) ≡ false → b ≡ false
     by_done false e = refl
     by_done true e = absurd (cc)
+
+-- where nothing is out, worker 1 has no lease
+pub not-busy : (w : ℕ) (past now : List Event) → leases past ≡ [] → HasCalled w past (Picks 1) (Err Busy) now → ⊥
+not-busy w past now home called =
+    let busy : is_some (lease_of 1 []) ≡ true = subst (λ (ls : List LeaseOut). is_some (lease_of 1 ls) ≡ true) home called.call.0 in
+    absurd (cc)
 
 pub err-rested : (w : ℕ) (past now : List Event) (fault : PickFault) → 1 ≤ w → Legal w past → leases past ≡ [] → HasCalled w past (Picks 1) (Err fault) now → HasRested w past now
 err-rested w past now Busy some legal home called = record { turns = subst (GrowsByTurns w past) (sym same) (turns-none w past); home = ap leases same ∙ home }

@@ -2,17 +2,21 @@
 use Rattle.std.specs.Prelude.{◌≡◌, ℕ, suc, ◌-◌, ◌<◌, List, [], ◌∷◌, ◌++◌, length, get_or, slice_get, Option, Some, None}
 use Rattle.std.specs.Option.{option_map, option_map_or}
 use Rattle.mal_base.specs.declared.verdict.Outcome.{Outcome}
+use Rattle.mal_base.specs.declared.verdict.Outcome.TheVariants.{Starved}
 use Rattle.mal_hall.specs.HallView.{HallView}
+use Rattle.mal_hall.specs.Offered.{handed_of}
 use Rattle.mal_history.specs.declared.event.Event as written
 use Rattle.mal_history.specs.declared.event.Event.TheVariants as of
 use Rattle.mal_history.specs.declared.event.Share.{Share}
 use Rattle.mal_job.specs.Finishing.{outcome_of}
 use Rattle.mal_revision.specs.Posted.{Posted}
+use Rattle.mal_suspend.specs.Kept.{finished}
+use Rattle.mal_suspend.specs.declared.kept.Kept.{Kept}
 use Rattle.spec_hall.specs.Calls.{handed}
 use Rattle.spec_hall.specs.Events.{Event, Start}
 use Rattle.spec_hall.specs.Given.{given}
 use Rattle.spec_hall.specs.Legal.{Allowed}
-use Rattle.spec_hall.specs.States.{keys_of, lease_of, leases}
+use Rattle.spec_hall.specs.States.{LeaseOut, keys_of, lease_of, leases}
 use Rattle.spec_job.specs.Leased.{Becomes, Finished, Leased}
 use Rattle.spec_job.specs.KeyedJob.{Key}
 
@@ -60,6 +64,17 @@ ComesOf l (Some d) = (d.worker ≡ l.worker) × Becomes d.outcome l d
 pub record IsBackOf (l : Leased) (outcome : Outcome) (back : Option Finished) : Type 0 where
   pub outcome_is : outcome_of back ≡ outcome
   pub comes : ComesOf l back
+
+-- a lease that is kept inside is that of a worker, as it was handed out
+pub record IsLodged (past : List Event) (worker : ℕ) (l : Leased) : Type 0 where
+  pub held : LeaseOut
+  pub worker_is : held.worker ≡ worker
+  pub out : lease_of held.worker (leases past) ≡ Some held
+  pub handed_is : handed_of l ≡ handed past held
+
+-- what comes of a lease that wanted for memory, of which this is kept of the node
+abbrev pub unrun : ℕ → Kept → Finished
+unrun worker kept = finished worker Starved kept [] None []
 
 -- the volumes that an event lists, where it is a balancing
 abbrev pub listed_in : written.Event → Option (List Share)

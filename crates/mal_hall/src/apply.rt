@@ -1,18 +1,23 @@
 //! Entering an event that was written down.
 
-ghost use Rattle.std.specs.Prelude.{◌≡◌, ◌↔◌, false, Some, Err, MatchOption, IfOk, OnOk, IsErrOf};
+ghost use Rattle.std.specs.Prelude.{◌≡◌, ◌↔◌, ◌≤◌, false, Some, Err, MatchOption, IfOk, OnOk, IsErrOf};
 ghost use Rattle.mal_base.specs.Asks.{Terms, Weighed};
-ghost use Rattle.mal_hall.specs.Applied.{Enters, HasApplied, IsInside, IsRefused, MayNotEnter, StartsAt};
+ghost use Rattle.mal_base.specs.declared.verdict.Outcome.TheVariants.{Starved};
+ghost use Rattle.mal_hall.specs.{Applied.{Enters, HasApplied, IsInside, IsLodged, IsRefused, MayNotEnter, StartsAt, unrun}, Offered.{HasEnded, MayEnd}};
 ghost use Rattle.mal_revision.specs.Posted.{Posted};
 ghost use Rattle.spec_hall.specs.{Calls.{Opens, Revises, Reasks, wanted}, Dressed.{keyed}, Events.{Open, Revise, Reask, Close, Balance, Start, Finish, Exchange}, Legal.{Allowed}};
 ghost use Rattle.spec_job.specs.KeyedJob.{Key};
 
+use crate::enter::enter_starved;
 use crate::hall::Hall;
-use crate::lodging::back_of;
+use crate::lodging::ran;
+use crate::spots::spot_of;
 use mal_base::{ApplyFault, Ask, Name, OpenFault, Outcome, ReaskFault, ReviseFault, Weight};
 use mal_history::{Event, Shares};
 use mal_learn::Scratch;
 use mal_revision::Revision;
+use mal_suspend::{Kept, Lease};
+use std::alloc::AllocError;
 
 impl Hall {
     /// Enters this one event, a Revise with the revision that is given. It is not allowed exactly where it may not come
@@ -259,12 +264,65 @@ impl Hall {
         let Some(lease) = self.take_lodged(worker) else {
             unreachable!();
         };
-        let back = match back_of(lease, outcome, scratch) {
-            Ok(back) => back,
-            Err(_) => return Err(ApplyFault::OutOfMemory),
-        };
-        self.end(worker, back);
+        match self.end_lodged(worker, lease, outcome, scratch) {
+            Ok(()) => Ok(()),
+            Err(_) => Err(ApplyFault::OutOfMemory),
+        }
+    }
+
+    /// Ends a lease that was kept inside as its start ended: one that ran is worked off, one that wanted for memory
+    /// is given back as it was, and one that was lost is dropped. A slice that wants for memory now is refused.
+    fn end_lodged(
+        &mut self,
+        worker: u32,
+        lease: Lease,
+        outcome: Outcome,
+        scratch: &mut Scratch,
+    ) -> Result<(), AllocError>
+        requires some { 1 ≤ worker }
+        requires lodged { IsLodged self.old.events worker lease }
+        ensures workers { self.new.workers ≡ self.old.workers }
+        ensures inside { self.new.inside ≡ self.old.inside }
+        ensures ended { OnOk result (HasEnded self.old.events self.new.events worker outcome) }
+    {
+        match outcome {
+            Outcome::Ran => {
+                let done = ran(lease, scratch)?;
+                self.end(worker, Some(done));
+            }
+            Outcome::Starved => self.end_starved(worker, lease.into_kept()),
+            Outcome::Lost => {
+                drop(lease);
+                self.end(worker, None);
+            }
+        }
         Ok(())
+    }
+
+    /// Ends the lease that a worker has out as one that wanted for memory, of which this is kept of the node. It takes
+    /// no error that says so: the history that is entered does. So nothing but the entering of one calls it.
+    fn end_starved(&mut self, worker: u32, kept: Kept)
+        requires some { 1 ≤ worker }
+        requires may { MayEnd self.old.events worker (Some (unrun worker kept)) }
+        ensures workers { self.new.workers ≡ self.old.workers }
+        ensures inside { self.new.inside ≡ self.old.inside }
+        ensures ended { HasEnded self.old.events self.new.events worker Starved }
+    {
+        let Some(spot) = spot_of(&self.spots, worker) else {
+            unreachable!();
+        };
+        let Some(at) = self.seats.place_of_number(spot.job()) else {
+            unreachable!();
+        };
+        enter_starved(
+            &mut self.entries,
+            &mut self.seats,
+            at,
+            spot.index(),
+            worker,
+            kept,
+        );
+        self.spots[worker as usize - 1] = None;
     }
 
     /// Enters an exchange of a job.

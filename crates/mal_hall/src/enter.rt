@@ -1,9 +1,10 @@
 //! Entering events: what is entered, and what that does to the jobs.
 
-ghost use Rattle.std.specs.Prelude.{◌≡◌, ◌+◌, ◌<◌, ◌≤◌, ◌^◌, [], ◌∷◌, ◌++◌, true, length, None, IfOk, OnOk, OnErr};
+ghost use Rattle.std.specs.Prelude.{◌≡◌, ◌+◌, ◌<◌, ◌≤◌, ◌^◌, [], ◌∷◌, ◌++◌, true, length, None, Some, IfOk, OnOk, OnErr};
 ghost use Rattle.std.specs.List.{remove};
 ghost use Rattle.mal_hall.specs.{Named.{AreAlike, HasNoted, jobs_at}, Turned.{HasWaited, IsBalancing}};
-ghost use Rattle.mal_job.specs.Finishing.{outcome_of, MayFinish};
+ghost use Rattle.mal_base.specs.declared.verdict.Outcome.TheVariants.{Starved};
+ghost use Rattle.mal_job.specs.Finishing.{outcome_of, MayFinish, MayStarve};
 ghost use Rattle.mal_seats.specs.{Changed.{OfSeat, IsChanged}, Numbered.{IsAbove}};
 ghost use Rattle.spec_job.specs.{SoloMachine.{Exchanged, Finished, Reasked, Revised, clauses_in, solo, startable}, Viewed.{and_own, and_start, IsLeaseOf}};
 ghost use Rattle.spec_hall.specs.{Dressed.{keyed}, Events.{Open, Revise, Reask, Start, Finish, Exchange, Leave, Arrive}, Seats.{arrived_seat, opened_seat}};
@@ -16,7 +17,7 @@ use mal_history::Event;
 use mal_parcel::Parcel;
 use mal_revision::Revision;
 use mal_seats::Seats;
-use mal_suspend::{Done, Lease};
+use mal_suspend::{Done, Kept, Lease};
 use std::alloc::{AllocError, Global};
 
 /// A job that comes: its number and its key.
@@ -315,6 +316,38 @@ pub fn enter_finish(
         index,
         worker,
         outcome,
+    });
+}
+
+/// Ends a start of the job at a place as one that wanted for memory, of which this is kept of the node, and enters it,
+/// for which there is room.
+pub fn enter_starved(
+    entries: &mut EventList,
+    seats: &mut Seats,
+    at: usize,
+    index: u32,
+    worker: u32,
+    kept: Kept,
+)
+    requires place { at < length seats.old }
+    requires kept { OfSeat seats.old at (λ s. MayStarve s.job index (Some kept)) }
+    requires room { 1 ≤ entries.old.room }
+    ensures workers { entries.new.workers ≡ entries.old.workers }
+    ensures events { OfSeat seats.old at
+        (λ s. entries.new.events ≡ entries.old.events ++ Finish s.job.titled.key index worker Starved ∷ []) }
+    ensures seats { IsChanged
+        (λ s. record s { job = and_own s.job (Finished index Starved) }) at seats.old seats.new }
+    ensures room { entries.new.room + 1 ≡ entries.old.room }
+{
+    let seat = seats.at(at);
+    let (tenant, job) = (seat.job().tenant(), seat.job().name());
+    seats.starve(at, index, kept);
+    entries.push_reserved(Event::Finish {
+        tenant,
+        job,
+        index,
+        worker,
+        outcome: Outcome::Starved,
     });
 }
 

@@ -622,7 +622,8 @@ impl Hall {
         // For the proof.
         let _ = self.is_due();
         match self.pick(1) {
-            Err(_) => Err(AllocError),
+            Err(PickFault::OutOfMemory) => Err(AllocError),
+            Err(PickFault::Busy) => unreachable!(),
             Ok(Pick::Idle) => Ok(false),
             Ok(Pick::AllDone) => Ok(false),
             Ok(Pick::Leased(lease)) => {

@@ -15,7 +15,7 @@ use crate::content::Content;
 use mal_base::{ClauseList, Name};
 use mal_history::{Event, Share};
 use mal_parcel::{OwnEvent, Owned};
-use mal_revision::Revision;
+use mal_revision::{Revision, RevisionFault};
 use std::alloc::{AllocError, Global};
 use std::marker::Model;
 use std::sync::Arc;
@@ -250,7 +250,10 @@ fn no_revision(alloc: Global) -> Result<Revision, AllocError>
 {
     match Revision::new(alloc, 0, ClauseList::new(alloc), &[]) {
         Ok(revision) => Ok(revision),
-        Err(_) => Err(AllocError),
+        Err(RevisionFault::OutOfMemory) => Err(AllocError),
+        Err(RevisionFault::Opposite { .. }) => unreachable!(),
+        Err(RevisionFault::VarTooLarge { .. }) => unreachable!(),
+        Err(RevisionFault::Limit { .. }) => unreachable!(),
     }
 }
 

@@ -7,6 +7,7 @@ use Rattle.mal_base.specs.declared.answer.Answer.{Answer}
 use Rattle.mal_base.specs.declared.verdict.Outcome.{Outcome}
 use Rattle.mal_base.specs.declared.verdict.Outcome.TheVariants.{Ran, Starved, Lost}
 use Rattle.mal_base.specs.declared.verdict.Verdict.{Verdict}
+use Rattle.mal_suspend.specs.declared.kept.Kept.{Kept}
 use Rattle.spec_search.specs.Slice.{Sliced}
 use Rattle.spec_search.proofs.CountLemmas.{slice-fits}
 use Rattle.spec_proof.specs.Log.{IsLog, IsOrderly}
@@ -25,9 +26,9 @@ use Rattle.spec_job.proofs.DerivingLemmas.{IsRunning}
 use Rattle.spec_job.proofs.RefutingLemmas.{runnable-logs_derived}
 use Rattle.spec_job.proofs.SolvingLemmas.{IsLeased, out-leased}
 use Rattle.mal_job.specs.Asking.{IsAsked, answer_with, concluded, concluded_by, ends_by, starved_by, settled_with}
-use Rattle.mal_job.specs.Finishing.{MayFollow, slice_out, answer_of}
+use Rattle.mal_job.specs.Finishing.{MayFollow, MayStarve, slice_out, answer_of}
 use Rattle.mal_job.specs.JobInvariant.{IsOwn, JobInvariant}
-use Rattle.mal_job.specs.Placing.{IsBackAt, IsTree, placed, with_placed, ran_home, came_home, one_more_ran, fresh_place, revision_of, adds_of}
+use Rattle.mal_job.specs.Placing.{HasJournal, IsBackAt, IsTree, placed, with_placed, ran_home, came_home, one_more_ran, fresh_place, revision_of, adds_of}
 use Rattle.mal_job.specs.Viewed.{PlaceView, TreeView, LogView, QuestionsView, Parts, place_of, places_of, starts_of, state_of, viewed}
 use Rattle.mal_job.proofs.KeptLemmas.{own-next, own-kept, few-runs, outs-less}
 use Rattle.mal_job.proofs.PartLemmas.{starts-same, journal-same, view-same}
@@ -60,6 +61,15 @@ back-ran p d o b = subst (λ (x : Outcome). IsGrownBy x b.lease.adds p.journal d
 
 pub back-starved : (p : PlaceView) (d : Finished) → d.outcome ≡ Starved → IsBackAt p d → d.journal ≡ p.journal
 back-starved p d o b = subst (λ (x : Outcome). IsGrownBy x b.lease.adds p.journal d.journal) o b.journal
+
+-- a start is out that may end as one that wanted for memory, and what is kept of its node is of its place
+pub starve-out : (tenant job : List ℕ) (q : Parts) (i : ℕ) (kept : Option Kept) → MayStarve (viewed tenant job q) i kept → is_some (placed q.tree i).out ≡ true
+starve-out tenant job q i kept m = ap (λ (o : Option Lease). is_some o) (sym (out-same q.tree.places i 0 0)) ∙ m.out
+
+pub starve-own : (tenant job : List ℕ) (q : Parts) (i : ℕ) (kept : Option Kept) → IsTree q.tree → q.tree.profile ≡ q.asked.ask.profile → MayStarve (viewed tenant job q) i kept → HasJournal kept (placed q.tree i).journal
+starve-own tenant job q i kept k solvers m =
+    let low : i < length q.tree.places = out-within q.tree.places i 0 0 (starve-out tenant job q i kept m) in
+    subst (λ (j : Journaled). HasJournal kept j) (journal-same tenant job q i low k solvers) m.own
 
 -- a start of a job ended so: this is the job afterwards, and it keeps what a job has to
 pub record Ended (tenant job : List ℕ) (q r : Parts) (i : ℕ) (o : Outcome) : Type 0 where

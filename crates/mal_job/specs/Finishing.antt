@@ -8,8 +8,10 @@ use Rattle.spec_search.specs.Slice.{Sliced}
 use Rattle.spec_job.specs.Journal.{replay}
 use Rattle.spec_job.specs.Leased.{Finished, model_with}
 use Rattle.spec_job.specs.SoloMachine.{SoloMachine, Lease, place_at, is_late}
-use Rattle.spec_job.specs.Viewed.{JobView, IsBack}
+use Rattle.spec_job.specs.Viewed.{JobView, IsBack, journal_at}
+use Rattle.mal_suspend.specs.declared.kept.Kept.{Kept}
 use Rattle.mal_job.specs.Asking.{answer_with}
+use Rattle.mal_job.specs.Placing.{HasJournal}
 
 -- how a start ended of which this came back: it is lost where nothing came
 abbrev pub outcome_of : Option Finished → Outcome
@@ -20,6 +22,12 @@ outcome_of (Some d) = d.outcome
 abbrev pub MayFinish : JobView → ℕ → Option Finished → Type 0
 MayFinish v index None = is_some (place_at v.titled.state index).out ≡ true
 MayFinish v index (Some d) = IsBack v index d
+
+-- the start that is out at an index may end as one that wanted for memory: it is out, and what is kept of its node, if
+-- anything is, has the journal from before it
+pub record MayStarve (v : JobView) (index : ℕ) (kept : Option Kept) : Type 0 where
+  pub out : is_some (place_at v.titled.state index).out ≡ true
+  pub own : HasJournal kept (journal_at v index)
 
 -- the slice of a start that is out at an index
 abbrev pub slice_out : SoloMachine → ℕ → Lease → Sliced

@@ -4,6 +4,8 @@ use Rattle.spec_job.specs.Journaled.{Journaled, and_entries, started}
 use Rattle.spec_job.specs.Leased.{Finished}
 use Rattle.spec_job.specs.SoloMachine.{Lease}
 use Rattle.spec_job.specs.Viewed.{IsGrownBy}
+use Rattle.mal_suspend.specs.Kept.{journal_of}
+use Rattle.mal_suspend.specs.declared.kept.Kept.{Kept}
 use Rattle.mal_job.specs.declared.node_slot.Whereabouts.{Whereabouts}
 use Rattle.mal_job.specs.declared.node_slot.Whereabouts.TheVariants.{Home, Cold, Gone, Out}
 use Rattle.mal_job.specs.Viewed.{PlaceView, TreeView}
@@ -29,6 +31,11 @@ IsKeptAt j (Home s) = s ≡ j
 IsKeptAt j (Cold s) = s ≡ j
 IsKeptAt j Gone = Unit {0}
 IsKeptAt j (Out revision grown) = ⊥
+
+-- what is kept of a node, if anything is, has this journal
+abbrev pub HasJournal : Option Kept → Journaled → Type 0
+HasJournal None j = Unit {0}
+HasJournal (Some kept) j = journal_of kept ≡ j
 
 -- for which revision a start is out, and what it adds to the journal
 abbrev pub revision_of : Option Lease → ℕ

@@ -1,16 +1,15 @@
 //! How a start ends that came back, and when the nodes of a job are given up.
 
 ghost use Rattle.std.specs.Prelude.{◌≡◌, ◌+◌, ◌<◌, ◌≤◌, ◌^◌, true, ◌∷◌, [], ◌++◌, length, is_some};
-ghost use Rattle.mal_base.specs.declared.verdict.Outcome.TheVariants.{Starved};
 ghost use Rattle.spec_job.specs.{Journaled.{and_entries}, SoloMachine.{first_empty}};
 ghost use Rattle.mal_suspend.specs.Kept.{journal_of};
-ghost use Rattle.mal_job.specs.{Asking.{IsAsked, concluded_by, ends_by, starved_by, settled_with}, Placing.{IsBackAt, IsTree, placed, with_placed, ran_home, came_home, one_more_ran, revision_of, adds_of}, Viewed.{MayAppend}};
+ghost use Rattle.mal_job.specs.{Asking.{IsAsked, concluded_by, ends_by, starved_by, settled_with}, Placing.{HasJournal, IsTree, placed, with_placed, ran_home, came_home, one_more_ran, revision_of, adds_of}, Viewed.{MayAppend}};
 
 use crate::derivation::Derivation;
 use crate::questions::Questions;
 use crate::tree::Tree;
 use mal_base::{Answer, Lines};
-use mal_suspend::{Done, Kept};
+use mal_suspend::Kept;
 
 /// Ends a start that ran: the node comes home with its journal, the lines of its slice enter the log, and unless the
 /// revision of the start has its answer, the slice answers it or counts as spent. Takes no memory.
@@ -56,17 +55,17 @@ pub fn finish_run(
     give_up(questions, tree);
 }
 
-/// Ends a start that wanted for memory: the node comes home as it was, and unless the revision of the start has its
-/// answer, the start is counted. Takes no memory.
+/// Ends a start that wanted for memory: the node comes home as it was, or is gone where nothing is kept of it, and
+/// unless the revision of the start has its answer, the start is counted. Takes no memory.
 pub fn finish_starved(
     questions: &mut Questions,
     tree: &mut Tree,
     log: &Derivation,
     index: u32,
-    back: Done,
+    kept: Option<Kept>,
 )
-    requires starved { back.outcome ≡ Starved }
-    requires back { IsBackAt (placed tree.old index) back }
+    requires out { is_some (placed tree.old index).out ≡ true }
+    requires own { HasJournal kept (placed tree.old index).journal }
     requires live { length questions.old.answers ≤ revision_of (placed tree.old index).out
         → length questions.old.answers < length questions.old.revisions }
     ensures tree { tree.new ≡ with_placed tree.old index (came_home (placed tree.old index)) }
@@ -76,26 +75,27 @@ pub fn finish_starved(
     ensures asked { IsAsked questions.new }
     ensures kept { IsTree tree.new }
 {
-    let revision = tree.come_home(index, back.into_kept());
+    let revision = bring_home(tree, index, kept);
     count_starved(questions, tree, log, revision);
 }
 
-/// Ends a start that wanted for memory: the node is gone, and unless the revision of the start has its answer, the
-/// start is counted. Takes no memory.
-pub fn finish_gone(questions: &mut Questions, tree: &mut Tree, log: &Derivation, index: u32)
+/// The node of this index comes home as it was, or is gone where nothing is kept of it. Gives the revision that its
+/// start was for, counted from 0. Takes no memory.
+fn bring_home(tree: &mut Tree, index: u32, kept: Option<Kept>) -> usize
     requires out { is_some (placed tree.old index).out ≡ true }
-    requires live { length questions.old.answers ≤ revision_of (placed tree.old index).out
-        → length questions.old.answers < length questions.old.revisions }
-    ensures tree { tree.new ≡ with_placed tree.old index (came_home (placed tree.old index)) }
-    ensures questions { questions.new
-        ≡ settled_with (first_empty log.now.lines)
-        (starved_by (revision_of (placed tree.old index).out) questions.old) }
-    ensures asked { IsAsked questions.new }
+    requires own { HasJournal kept (placed tree.old index).journal }
+    ensures value { tree.new ≡ with_placed tree.old index (came_home (placed tree.old index)) }
+    ensures revision { result ≡ revision_of (placed tree.old index).out }
     ensures kept { IsTree tree.new }
 {
-    let revision = tree.revision(index);
-    tree.lose(index);
-    count_starved(questions, tree, log, revision);
+    match kept {
+        None => {
+            let revision = tree.revision(index);
+            tree.lose(index);
+            revision
+        }
+        Some(kept) => tree.come_home(index, kept),
+    }
 }
 
 /// Counts a start for this revision that wanted for memory, unless the revision has its answer. Takes no memory.

@@ -7,10 +7,10 @@ ghost use Rattle.spec_job.specs.{SoloMachine.{Opened, Revised, Reasked, Closed, 
 ghost use Rattle.mal_suspend.specs.Freezing.{IsFrozen};
 ghost use Rattle.spec_report.specs.Replies.{Proof, reply_text};
 ghost use Rattle.mal_report.specs.Told.{body_of};
-ghost use Rattle.mal_job.specs.{Among.{among}, Finishing.{outcome_of, MayFinish, MayFollow}, Replying.{Tells, TellsReply}, Viewed.{shared}};
+ghost use Rattle.mal_job.specs.{Among.{among}, Finishing.{outcome_of, MayFinish, MayFollow, MayStarve}, Replying.{Tells, TellsReply}, Viewed.{shared}};
 
 use crate::derivation::Derivation;
-use crate::finishing::{finish_gone, finish_lost, finish_run, finish_starved, give_up};
+use crate::finishing::{finish_lost, finish_run, finish_starved, give_up};
 use crate::loading::{count_clauses, missing_loads};
 use crate::questions::{Questions, answer_of};
 use crate::told::{answer_at, copied, last_lits, negations, revision_at};
@@ -398,12 +398,13 @@ impl Job {
         Ok(())
     }
 
-    /// Ends the start that is out at this index as one that wanted for memory. The node is gone. Takes no memory.
-    pub fn starve(&mut self, index: u32)
-        requires { is_some (place_at self.old.titled.state index).out ≡ true }
+    /// Ends the start that is out at this index as one that wanted for memory where it was run. The node is gone where
+    /// nothing is kept of it. Takes no memory.
+    pub fn starve(&mut self, index: u32, kept: Option<Kept>)
+        requires { MayStarve self.old index kept }
         ensures { self.new ≡ and_own self.old (Finished index Starved) }
     {
-        finish_gone(&mut self.questions, &mut self.tree, &self.log, index);
+        finish_starved(&mut self.questions, &mut self.tree, &self.log, index, kept);
     }
 
     /// Puts the node of this index, where it is not out, where its journal is, from the bytes of its image, so that it
@@ -452,7 +453,8 @@ impl Job {
         requires back { IsBack self.old index back }
         ensures { self.new ≡ and_own self.old (Finished index Starved) }
     {
-        finish_starved(&mut self.questions, &mut self.tree, &self.log, index, back);
+        let kept = Some(back.into_kept());
+        finish_starved(&mut self.questions, &mut self.tree, &self.log, index, kept);
     }
 
     /// Ends a start that is lost.

@@ -6,7 +6,7 @@ ghost use Rattle.spec_job.specs.Journaled.{replayed, started, and_entries};
 ghost use Rattle.mal_suspend.specs.{Freezing.{IsFrozen}, Kept.{journal_of}, Replaying.{MayAllReplay}, Starting.{shared_loads, shared_imports, start_entries}};
 ghost use Rattle.mal_job.specs.Placing.{fresh_place, sent, ran_home, came_home, IsBackAt, IsKeptAt, adds_of};
 
-use mal_base::Outcome;
+use mal_base::{Outcome, grown};
 use mal_buffer::Buffer;
 use mal_learn::Scratch;
 use mal_revision::Revision;
@@ -167,9 +167,7 @@ impl NodeSlot {
         ensures own_index { self.new.journal.index ≡ self.old.journal.index }
         ensures own_profile { self.new.journal.profile ≡ self.old.journal.profile }
     {
-        let Some(starts) = self.starts.checked_add(1) else {
-            return Err(AllocError);
-        };
+        let starts = next_count(self.starts)?;
         let begun = Start::new(&self.journal, loads, imports, start)?;
         let grown = begun.grown().copy()?;
         let kept = self.hand_out()?;
@@ -277,6 +275,14 @@ impl NodeSlot {
     }
 }
 
+/// One start more. Is refused where the count would pass its type's end.
+fn next_count(starts: u64) -> Result<u64, AllocError>
+    ensures { IfOk result (λ n. n ≡ starts + 1) }
+{
+    let next = grown(starts as usize, 1, usize::MAX)?;
+    Ok(next as u64)
+}
+
 /// Whether a journal has entries.
 fn has_entries(entries: &Entries) -> bool
     ensures { result ≡ not (length entries.now == 0) }
@@ -298,7 +304,7 @@ pub fn rebuilt(journal: Journal, scratch: &mut Scratch) -> Result<Vec<u8>, Alloc
     ensures { IfOk result (λ v. IsFrozen v.items journal) }
 {
     match Kept::Gone(journal).wake(scratch) {
-        Err(_) => Err(AllocError),
+        Err((_, error)) => Err(error),
         Ok(suspended) => suspended.bytes(),
     }
 }

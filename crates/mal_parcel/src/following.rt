@@ -232,7 +232,7 @@ fn finish(job: &mut Job, index: u32, outcome: Outcome)
 {
     match outcome {
         Outcome::Ran => unreachable!(),
-        Outcome::Starved => job.starve(index),
+        Outcome::Starved => job.starve(index, None),
         Outcome::Lost => job.finish(index, None),
     }
 }

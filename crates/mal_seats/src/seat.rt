@@ -1,8 +1,9 @@
 //! A job of a hall in its seat.
 
-ghost use Rattle.std.specs.Prelude.{◌≡◌, ◌↔◌, ◌+◌, ◌<◌, ◌≤◌, [], ◌∷◌, ◌++◌, true, IfOk, IsTrue, OnOk, OnErr, length};
+ghost use Rattle.std.specs.Prelude.{◌≡◌, ◌↔◌, ◌+◌, ◌<◌, ◌≤◌, [], ◌∷◌, ◌++◌, true, Some, IfOk, IsTrue, OnOk, OnErr, length};
 ghost use Rattle.mal_base.specs.Asks.{IsAsk};
-ghost use Rattle.mal_job.specs.Finishing.{outcome_of, MayFinish};
+ghost use Rattle.mal_base.specs.declared.verdict.Outcome.TheVariants.{Starved};
+ghost use Rattle.mal_job.specs.Finishing.{outcome_of, MayFinish, MayStarve};
 ghost use Rattle.spec_job.specs.{SoloMachine.{Revised, Reasked, Closed, Finished, Exchanged, is_exchange_due, place_at, startable, clauses_in}, Viewed.{and_own, and_start, IsLeaseOf, IsBack}};
 ghost use Rattle.spec_hall.specs.{Dressed.{keyed}, Own.{is_key}};
 ghost use Rattle.spec_hall.specs.Seats as spec;
@@ -13,7 +14,7 @@ use mal_base::{Ask, Name, Weight};
 use mal_history::{Share, Shares};
 use mal_job::Job;
 use mal_revision::Revision;
-use mal_suspend::{Done, Lease};
+use mal_suspend::{Done, Kept, Lease};
 use std::alloc::{AllocError, Global};
 use std::marker::Model;
 use std::sync::Arc;
@@ -277,6 +278,15 @@ impl Seat {
         ensures { self.new ≡ record self.old { job = and_own self.old.job (Finished index (outcome_of back)) } }
     {
         self.job.finish(index, back);
+    }
+
+    /// Ends the start that is out at this index as one that wanted for memory, of which this is kept of the node. Takes
+    /// no memory.
+    pub(crate) fn starve(&mut self, index: u32, kept: Kept)
+        requires { MayStarve self.old.job index (Some kept) }
+        ensures { self.new ≡ record self.old { job = and_own self.old.job (Finished index Starved) } }
+    {
+        self.job.starve(index, Some(kept));
     }
 
     /// Whether an exchange of the job is due.

@@ -1,8 +1,9 @@
 //! The seats of a hall, with what saves going over all of them.
 
-ghost use Rattle.std.specs.Prelude.{◌≡◌, ℕ, ◌+◌, ◌<◌, ◌≤◌, ◌^◌, [], ◌∷◌, ◌++◌, true, not, length, slice_index_or, IfOk, OnOk, OnErr};
+ghost use Rattle.std.specs.Prelude.{◌≡◌, ℕ, ◌+◌, ◌<◌, ◌≤◌, ◌^◌, [], ◌∷◌, ◌++◌, true, not, length, slice_index_or, Some, IfOk, OnOk, OnErr};
 ghost use Rattle.std.specs.{Fn.{FnOnceReturnsAtMut, FnOnceTakesAtMut}, List.{list_all, remove}};
-ghost use Rattle.mal_job.specs.Finishing.{outcome_of, MayFinish};
+ghost use Rattle.mal_base.specs.declared.verdict.Outcome.TheVariants.{Starved};
+ghost use Rattle.mal_job.specs.Finishing.{outcome_of, MayFinish, MayStarve};
 ghost use Rattle.mal_seats.specs.{Changed.{OfSeat, IsChanged, IsSteady, HasStepped}, Coming.{seat_of}, Numbered.{IsAbove, place_numbered}};
 ghost use Rattle.spec_balance.specs.Fair.{IsFair, volume_at};
 ghost use Rattle.spec_job.specs.{SoloMachine.{Revised, Reasked, Closed, Finished, Exchanged, startable, clauses_in}, Viewed.{and_own, and_start, IsLeaseOf}};
@@ -20,7 +21,7 @@ use mal_base::{Ask, Name, Weight};
 use mal_history::Shares;
 use mal_job::Job;
 use mal_revision::Revision;
-use mal_suspend::{Done, Lease};
+use mal_suspend::{Done, Kept, Lease};
 use std::alloc::{AllocError, Global};
 use std::marker::Model;
 
@@ -145,7 +146,7 @@ impl Seats {
     {
         let filled = match filled_by(*self.seats.allocator(), &self.seats, volumes) {
             Ok(filled) => filled,
-            Err(_) => return Err(AllocError),
+            Err(error) => return Err(error),
         };
         balance(&mut self.seats, volumes);
         self.counts.changed = 0;
@@ -161,7 +162,7 @@ impl Seats {
     {
         let seat = match Seat::fresh(*self.seats.allocator(), number, tenant, job, ask) {
             Ok(seat) => seat,
-            Err(_) => return Err(AllocError),
+            Err(error) => return Err(error),
         };
         self.push(seat)
     }
@@ -176,7 +177,7 @@ impl Seats {
     {
         let seat = match Seat::of(*self.seats.allocator(), job) {
             Ok(seat) => seat,
-            Err(_) => return Err(AllocError),
+            Err(error) => return Err(error),
         };
         self.push(seat)
     }
@@ -190,7 +191,7 @@ impl Seats {
     {
         match self.seats.reserve(1) {
             Ok(()) => {}
-            Err(_) => return Err(AllocError),
+            Err(error) => return Err(error),
         }
         let marks = seat.marks();
         self.counts.add(marks);
@@ -283,6 +284,16 @@ impl Seats {
             (λ s. record s { job = and_own s.job (Finished index (outcome_of back)) }) at self.old self.new }
     {
         self.change(at, |seat| seat.finish(index, back));
+    }
+
+    /// Ends the start of the job at a place that is out at this index as one that wanted for memory, of which this is
+    /// kept of the node. Takes no memory.
+    pub fn starve(&mut self, at: usize, index: u32, kept: Kept)
+        requires place { at < length self.old }
+        requires kept { OfSeat self.old at (λ s. MayStarve s.job index (Some kept)) }
+        ensures { IsChanged (λ s. record s { job = and_own s.job (Finished index Starved) }) at self.old self.new }
+    {
+        self.change(at, |seat| seat.starve(index, kept));
     }
 
     /// Lets the nodes of the job at a place tell one another what they derived. After want of memory the seats are as
