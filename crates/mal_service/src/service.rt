@@ -1,7 +1,8 @@
 //! The service and its calls.
-ghost use Rattle.std.specs.Prelude.{◌≡◌, ◌≤◌, ◌<◌, IfOk, IfErr};
+ghost use Rattle.std.specs.Prelude.{◌≡◌, ◌≤◌, ◌<◌, [], IfOk, IfErr};
 ghost use Rattle.mal_hall.specs.Offered.{offered, replied, returned};
 ghost use Rattle.mal_service.specs.Posts.{HoldsOfPost};
+ghost use Rattle.mal_turn.specs.Numbers.{part};
 ghost use Rattle.mal_turn.specs.Tokens.{IsOf, view};
 ghost use Rattle.spec_hall.specs.Dressed.{keyed};
 ghost use Rattle.mal_service.specs.{Passes.{Enters, LeavesHall}, Record.{Asked, Picked, Gave}};
@@ -103,13 +104,14 @@ impl<S: Size> Service<S> {
         (self.turn.put(held), answer)
     }
 
-    /// The second pass is new. It has seen the same, and has a number of its own.
+    /// The second pass is new. It has seen the same, and has a number of its own, by which no entry is in what was seen.
     pub fn split(&self, pass: Pass<S>) -> (Pass<S>, Pass<S>)
         requires { IsOf self.now.turn pass }
         ensures turn { IsOf self.now.turn result.0 × IsOf self.now.turn result.1 }
         ensures seen { ((view result.0).seen ≡ (view pass).seen) × ((view result.1).seen ≡ (view pass).seen) }
         ensures old { (view result.0).of ≡ splitting (view pass).of }
         ensures new { (view result.1).of ≡ child (view pass).of }
+        ensures none { part (view result.1).of.all (view result.1).seen ≡ [] }
     {
         self.turn.split(pass)
     }

@@ -1,5 +1,5 @@
 -- Each step keeps the rule.
-use Rattle.std.proofs.Common.{None, ◌≡◌, ◌≢◌, ℕ, zero, suc, ◌+◌, ◌<◌, ◌≤◌, eqb, Bool, true, false, List, [], ◌∷◌, ◌++◌, map, length, if◌then◌else◌, get_or, set, refl, sym, ap, ◌∙◌, subst, inl, inr, ◌⊎◌, ⊎_elim, Option, Some, arith, le_refl, eq-eqb, ne_eqb, length-append, nat_le, ◌||◌}
+use Rattle.std.proofs.Common.{None, ◌≡◌, ◌≢◌, ℕ, zero, suc, ◌+◌, ◌<◌, ◌≤◌, eqb, Bool, true, false, List, [], ◌∷◌, ◌++◌, map, length, if◌then◌else◌, get_or, set, refl, sym, ap, ◌∙◌, subst, inl, inr, ◌⊎◌, ⊎_elim, Option, Some, append_assoc, arith, le_refl, eq-eqb, ne_eqb, length-append, nat_le, ◌||◌}
 use mathlib.Core.Logic.{dite}
 use mathlib.Core.Option as lean
 use native.Mathlib.Decide.{ℕ_discrete}
@@ -13,11 +13,11 @@ use Rattle.mal_turn.specs.declared.view.Numbers.{Numbers}
 use Rattle.mal_turn.specs.declared.view.Stage.{Stage}
 use Rattle.mal_turn.specs.declared.view.Stage.TheVariants.{Idle, Drawn, Holds, Entered}
 use Rattle.mal_turn.specs.Numbers.{same, among, part}
-use Rattle.mal_turn.specs.Rule.{Log, At, HasTicket, is_inside, Has, IsSpent, opening, opener, at_stage, seeing, numbers, Olds, Begins, Former, Stands, Fits, NumberRule, Home, Away, TurnRule, Leaves, spent, next_number, splitting, child, joined, IsWhole, split_left, split_right, join_both, nobody}
+use Rattle.mal_turn.specs.Rule.{Log, At, HasTicket, is_inside, Has, IsSpent, opening, opener, at_stage, seeing, numbers, Olds, Begins, Former, Stands, Fits, NumberRule, Home, Away, TurnRule, IsUnborn, Leaves, spent, next_number, splitting, child, joined, IsWhole, split_left, split_right, join_both, nobody}
 use Rattle.mal_turn.specs.Steps.{Tabled, draws, looks, enters, passes}
 use Rattle.mal_turn.proofs.Lists.{stay, one_view, behind, begins_whole, begins_longer}
 use Rattle.mal_turn.proofs.Paths.{same_equal, has_left, has_right, part_none, part_both, part_later}
-use Rattle.mal_turn.proofs.Records.{at_end, token_split, new_is_fresh, numbered_split, token_join, numbered_join, whole_has}
+use Rattle.mal_turn.proofs.Records.{at_end, token_split, new_is_fresh, numbered_split, token_join, numbered_join, whole_has, made_before}
 use mathlib.Core.List.{map-append}
 use Rattle.std.proofs.lemmas.Bool.Decides.{nat_tests}
 
@@ -190,6 +190,15 @@ module _ {T E : Type 0} (stands : T → Log E → Type 0) where
       (stay (Fits r.log r.ticket r.serving r.owner) s.views id w (record { staged = staged; begins = begins_whole r.log r.log v.of.all refl; former = no_former r.log v.of.all; live = live }) (λ j d _ p. r.each j d p))
       (same_numbers r.log r.token s.views id was w at refl r.numbered)
 
+  -- no token has entered that this one would still make
+  not_born : (s : St) (r : Rule s) (id : ℕ) (v : View E) → At s.views id v → Has v.of v.of.first → IsUnborn v.of r.log
+  not_born s r id v at has i rest k e late p is =
+      let d = r.numbered.entered k e p in
+      let q : e.0 ≡ (v.of.first ++ i ∷ []) ++ rest = is ∙ sym (append_assoc v.of.first (i ∷ []) rest) in
+      let made = made_before r.log r.token (map numbers s.views) r.numbered (v.of.first ++ i ∷ []) (length rest) rest (le_refl (length rest)) (r.token e.0) d.0 d.1 (subst (λ (x : List ℕ). Has d.0 x) q d.2) in
+      let low : i < v.of.count = r.numbered.fresh id made.0 i v.of made.1 (at_map numbers s.views id v at) made.2 has made.3 in
+      absurd (omega (arith, late, low))
+
   pub looks_keep : (slots id t : ℕ) (v : View E)
       → Allows Rule slots id (at_stage (Drawn t) v, []) 1 (λ x. x) (looks stands (step slots 1 0 0 lean.none) (at_stage (Drawn t) v, []))
   looks_keep slots id t v s r _ at _ = let x : ℕ = get_or s.words 1 0 in let now : x ≡ r.serving = word_is s r 1 in let was : View E = at_stage (Drawn t) v in let fit = r.each id was at in dite (ℕ_discrete x t)
@@ -199,7 +208,7 @@ module _ {T E : Type 0} (stands : T → Log E → Type 0) where
         ap (λ (l : List (lean.Option (Option T))). get_elem? l 0) h.1,
         looked s r id v (Drawn t) (Holds t) (set s.homes 0 lean.none) at (λ u h. h) (omega arith, lt, mine.2, refl, h.3 ∙ omega arith) (⊎_elim (λ (idle : Drawn t ≡ Idle). absurd (cc)) inr fit.live)
             (inr (ap (λ (l : List (lean.Option (Option T))). set l 0 lean.none) h.1, (id, w, set_here s.views id w (long_enough s.views id was at), refl))),
-        ((λ _. (r.log, h.0, refl, h.2, fit.begins, h.3 ∙ omega arith)), λ miss. absurd (miss hit)),
+        ((λ _. (r.log, h.0, refl, h.2, fit.begins, h.3 ∙ omega arith, not_born s r id was at (⊎_elim (λ (idle : Drawn t ≡ Idle). absurd (cc)) (λ (q : Has v.of v.of.first). q) fit.live))), λ miss. absurd (miss hit)),
       ))
       (λ miss. (was, keeps, tt, still s r 1 id was at, ((λ hit. absurd (miss hit)), λ _. refl)))
 
@@ -413,7 +422,7 @@ module _ {T E : Type 0} (stands : T → Log E → Type 0) where
     keeps,
     tt,
     looked s r id v Idle Idle s.homes at (λ u h. h) tt (inr has) (⊎_elim (λ h. inl (home_stays r.log r.serving s.homes s.views id w refl h)) (λ a. inr (away_stays s.homes s.views id was w at refl a)) r.slot),
-    (r.log, refl, fit.begins, λ i o p. (fit.former i o p).0),
+    (r.log, refl, fit.begins, λ i o p. (fit.former i o p).0, not_born s r id was at has),
   )
 
   inside_below : (log : Log E) (ticket serving : ℕ) (owner : ℕ → ℕ) (j : ℕ) (seen : Log E) (st : Stage) → Stands log ticket serving owner j seen st → is_inside st ≡ true → serving < ticket

@@ -5,3 +5,4 @@ pub mod Wholes
 -- what this crate alone cites
 mod Lists
 mod Records
+mod Births

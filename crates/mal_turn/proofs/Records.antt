@@ -1,5 +1,5 @@
 -- What a split and a join do to the numbers of all tokens, and why a whole token has them all.
-use Rattle.std.proofs.Common.{◌≡◌, ◌≢◌, ℕ, zero, suc, ◌+◌, ◌<◌, ◌≤◌, eqb, Bool, true, false, List, [], ◌∷◌, ◌++◌, length, set, if◌then◌else◌, refl, sym, ap, ◌∙◌, subst, inl, inr, ◌⊎◌, ⊎_elim, arith, le_refl, eq-eqb, ne_eqb, length-append, length-set}
+use Rattle.std.proofs.Common.{◌≡◌, ◌≢◌, ℕ, zero, suc, ◌+◌, ◌<◌, ◌≤◌, eqb, Bool, true, false, List, [], ◌∷◌, ◌++◌, length, set, if◌then◌else◌, refl, sym, ap, ◌∙◌, append_assoc, append-nil, subst, inl, inr, ◌⊎◌, ⊎_elim, arith, le_refl, eq-eqb, ne_eqb, length-append, length-set}
 use mathlib.Core.Logic.{dite}
 use mathlib.Core.Option as lean
 use native.Mathlib.Decide.{ℕ_discrete}
@@ -130,6 +130,16 @@ module _ {E : Type 0} (log : Log E) (token : List ℕ → ℕ) (ns : List Number
           (back k m q);
       entered = λ i e p. let d = r.entered i e p in let f = forth (token e.0) d.0 d.1 in (f.0, subst (λ (z : ℕ). At ns' z f.0) (sym (token_same (token e.0) d.0 e.0 d.1 d.2)) f.1, like_has_back d.0 f.0 e.0 f.2 d.2);
     }
+
+  -- of each number that a token has some token has its beginnings
+  pub made_before : (q : List ℕ) (f : ℕ) (rest : List ℕ) → length rest ≤ f → (k : ℕ) (m : Numbers) → At ns k m → Has m (q ++ rest) → (j : ℕ) × (n : Numbers) × At ns j n × Has n q
+  made_before q zero [] le k m p h = (k, m, p, subst (Has m) (append-nil q) h)
+  made_before q zero (x ∷ rest) le k m p h = absurd (omega (arith, le))
+  made_before q (suc f) rest le k m p h = ⊎_elim (λ (e : rest ≡ []). (k, m, p, subst (Has m) (ap (λ (l : List ℕ). q ++ l) e ∙ append-nil q) h))
+      (λ (t : (x : List ℕ) × (i : ℕ) × (rest ≡ x ++ i ∷ [])).
+      let long : length rest ≡ length (t.0 ++ t.1 ∷ []) = ap length t.2 in
+      let d = r.parent k t.1 m (q ++ t.0) p (subst (Has m) (ap (λ (l : List ℕ). q ++ l) t.2 ∙ sym (append_assoc q t.0 (t.1 ∷ []))) h) in
+      made_before q f t.0 (omega (arith, le, long, length-append t.0 (t.1 ∷ []))) (token (q ++ t.0)) d.0 d.1 d.2) (snoc_view rest)
 
   -- a whole token has each number that a token has
   pub whole_has : (id : ℕ) (n : Numbers) → At ns id n → IsWhole n → (f : ℕ) (x : List ℕ) → length x ≤ f → (k : ℕ) (m : Numbers) → At ns k m → Has m x → Has n x

@@ -120,6 +120,11 @@ module _ {E : Type 0} where
   abbrev pub Former : Log E → List (List ℕ) → Olds E → Type 0
   Former log all olds = (i : ℕ) (o : List (List ℕ) × Log E) → At olds i o → Begins log o.0 o.1 × ((x : List ℕ) → among x o.0 ≡ true → among x all ≡ true)
 
+  -- no entry is by a number that a token with these numbers may still make by a split, nor by one that such a number would
+  -- make
+  abbrev pub IsUnborn : Numbers → Log E → Type 0
+  IsUnborn n log = (i : ℕ) (rest : List ℕ) (k : ℕ) (e : List ℕ × E) → n.count ≤ i → At log k e → e.0 ≡ n.first ++ i ∷ rest → ⊥
+
   -- What a token that took the turn and put the value back knows: all that it had seen, what others entered since, and
   -- then its own entry. Of its numbers the record has the entries that it had and this one.
   pub record Extends (v : View E) (e : E) (w : View E) : Type 0 where

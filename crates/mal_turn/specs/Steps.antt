@@ -4,7 +4,7 @@ use Rattle.atomic_table.specs.Table.{Me, Step}
 use Rattle.mal_turn.specs.declared.view.View.{View}
 use Rattle.mal_turn.specs.declared.view.Stage.{Stage}
 use Rattle.mal_turn.specs.declared.view.Stage.TheVariants.{Idle, Drawn, Holds, Entered}
-use Rattle.mal_turn.specs.Rule.{At, Log, Begins, at_stage, seeing}
+use Rattle.mal_turn.specs.Rule.{At, Log, Begins, IsUnborn, at_stage, seeing}
 
 -- a token as the table knows it: its view, and the slots that are out with it
 abbrev pub Tabled : Type 0 → Type 0 → Type 0
@@ -22,14 +22,15 @@ module _ {T E : Type 0} where
   abbrev pub draws : Step (Option T) → Tabled T E → ℕ → Tabled T E → Type 0
   draws st m r m' = (r ≡ st.first → m' ≡ (at_stage (Drawn st.first) m.0, m.1)) × (r ≢ st.first → m' ≡ m)
 
-  -- the token is served: it has the value and has seen the whole record
+  -- the token is served: it has the value and has seen the whole record, in which no token has entered that it would still
+  -- make
   abbrev pub served : (T → Log E → Type 0) → Tabled T E → ℕ → Tabled T E → Type 0
-  served stands m t m' = (log : Log E) × (x : T) × (m' ≡ (seeing (Holds t) log m.0, (0, Some x) ∷ [])) × stands x log × Begins log m.0.of.all m.0.seen × (length log ≡ t)
+  served stands m t m' = (log : Log E) × (x : T) × (m' ≡ (seeing (Holds t) log m.0, (0, Some x) ∷ [])) × stands x log × Begins log m.0.of.all m.0.seen × (length log ≡ t) × IsUnborn m.0.of log
 
   -- the token sees the record so far, which begins with what it had seen, and with what the tokens had seen that it was
-  -- joined of
+  -- joined of, and in which no token has entered that it would still make
   abbrev pub learns : Tabled T E → Tabled T E → Type 0
-  learns m m' = (log : Log E) × (m' ≡ (seeing m.0.stage log m.0, m.1)) × Begins log m.0.of.all m.0.seen × ((i : ℕ) (o : List (List ℕ) × Log E) → At m.0.old i o → Begins log o.0 o.1)
+  learns m m' = (log : Log E) × (m' ≡ (seeing m.0.stage log m.0, m.1)) × Begins log m.0.of.all m.0.seen × ((i : ℕ) (o : List (List ℕ) × Log E) → At m.0.old i o → Begins log o.0 o.1) × IsUnborn m.0.of log
 
   -- look at serving: a token with a ticket is served or not, and one without sees the record so far
   abbrev pub looks_at : (T → Log E → Type 0) → Stage → Tabled T E → ℕ → Tabled T E → Type 0

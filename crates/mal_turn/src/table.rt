@@ -1,6 +1,6 @@
 //! The turn, its tokens, and what a holder has.
 ghost use Rattle.std.specs.Prelude.{◌≡◌, ◌+◌, ◌^◌, ◌<◌, [], ◌∷◌, None, true};
-ghost use Rattle.mal_turn.specs.{declared.view.Stage.TheVariants.{Idle, Holds}, Numbers.{among}, Rule.{at_stage}};
+ghost use Rattle.mal_turn.specs.{declared.view.Stage.TheVariants.{Idle, Holds}, Numbers.{among}, Rule.{IsUnborn, at_stage}};
 
 use crate::rule::TurnRule;
 use crate::view::{Recorded, View};
@@ -38,6 +38,7 @@ pub struct TokenOf<T, E> {
     pub(crate) place: Place<T, E>,
     ghost idle: { place.me ≡ (at_stage Idle place.me.0, []) },
     ghost live: { among place.me.0.of.first place.me.0.of.all ≡ true },
+    ghost unborn: { IsUnborn place.me.0.of place.me.0.seen },
 }
 
 /// The value, for as long as its holder has the turn. It is put back by `Turn::put`.
@@ -51,6 +52,7 @@ pub struct HeldOf<T, E> {
     ghost holds: { place.me ≡ (at_stage (Holds ticket) place.me.0, (0, None) ∷ []) },
     ghost small: { ticket + 1 < 2 ^ 64 },
     ghost live: { among place.me.0.of.first place.me.0.of.all ≡ true },
+    ghost unborn: { IsUnborn place.me.0.of place.me.0.seen },
 }
 
 /// Why a turn was not closed: a ticket was drawn that its holder never passed on, the last one; and the one that is served.

@@ -1,5 +1,6 @@
 //! The calls of a turn.
 ghost use Rattle.std.specs.Prelude.{IfErr, IfOk, true, false, ◌≡◌, ◌≢◌, ◌<◌, ◌++◌, [], ◌∷◌};
+ghost use Rattle.mal_turn.specs.Numbers.{part};
 ghost use Rattle.mal_turn.specs.Rule.{Begins, Has, IsWhole, Leaves, opener, splitting, child, joined};
 ghost use Rattle.mal_turn.specs.Tokens.{view, held_view, IsOf, IsHeldOf};
 
@@ -76,13 +77,14 @@ impl<T: Recorded + Drop> Turn<T> {
         TokenOf { place }
     }
 
-    /// The second token is new. It has seen the same, and has a number of its own.
+    /// The second token is new. It has seen the same, and has a number of its own, by which no entry is in what was seen.
     pub fn split(&self, token: Token<T>) -> (Token<T>, Token<T>)
         requires { IsOf self.now token }
         ensures turn { IsOf self.now result.0 × IsOf self.now result.1 }
         ensures seen { ((view result.0).seen ≡ (view token).seen) × ((view result.1).seen ≡ (view token).seen) }
         ensures old { (view result.0).of ≡ splitting (view token).of }
         ensures new { (view result.1).of ≡ child (view token).of }
+        ensures none { part (view result.1).of.all (view result.1).seen ≡ [] }
     {
         let TokenOf { mut place } = token;
         let new = self.table.shared.split_seat::<Cut>(&mut place);

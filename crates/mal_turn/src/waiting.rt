@@ -2,7 +2,7 @@
 //! take 0.03 to 0.07 s with 4 threads and 0.04 to 0.16 with 16; handed on strictly in the order of waiting they took
 //! 4.8 and 50.
 ghost use Rattle.std.specs.Prelude.{◌≡◌, ◌+◌, ◌^◌, ◌<◌, [], ◌∷◌, length, IfSome, IfNone, Some};
-ghost use Rattle.mal_turn.specs.{declared.view.Stage.TheVariants.{Idle, Drawn, Holds}, Rule.{Begins, Has, at_stage, seeing}};
+ghost use Rattle.mal_turn.specs.{declared.view.Stage.TheVariants.{Idle, Drawn, Holds}, Rule.{Begins, Has, IsUnborn, at_stage, seeing}};
 
 use crate::steps::{Draw, Look};
 use crate::table::{Place, SERVING, TICKET, Turn};
@@ -107,6 +107,7 @@ impl<T: Recorded + Drop> Turn<T> {
             × T.stands x place.new.me.0.seen }
         ensures seen { Begins place.new.me.0.seen place.old.me.0.of.all place.old.me.0.seen }
         ensures count { length place.new.me.0.seen ≡ ticket }
+        ensures unborn { IsUnborn place.old.me.0.of place.new.me.0.seen }
     {
         for _ in rt.forever() {
             if self.table.shared.load::<Look>(place, SERVING) == ticket {

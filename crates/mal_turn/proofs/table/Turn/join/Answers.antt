@@ -3,7 +3,7 @@ use mathlib.Core.Option as lean
 use Rattle.atomic_table.specs.Table.{Allows, Joins, step}
 use Rattle.mal_turn.specs.declared.view.View.{View}
 use Rattle.mal_turn.specs.declared.view.Stage.TheVariants.{Idle}
-use Rattle.mal_turn.specs.Rule.{At, Begins, Log, TurnRule, Has, at_stage, join_both, nobody}
+use Rattle.mal_turn.specs.Rule.{At, Begins, IsUnborn, Log, TurnRule, Has, at_stage, join_both, nobody}
 use Rattle.mal_turn.specs.Steps.{Tabled, learns, looks}
 use Rattle.mal_turn.proofs.Paths.{has_left}
 use Rattle.mal_turn.proofs.Keeps.{joins_keep, learns_keep}
@@ -57,6 +57,7 @@ invariant_of-result g c =
     record {
       idle = sees.1 ∙ ap (λ (m : Tabled g.row.T.Denot g.row.T-Entry.Denot). (at_stage Idle m.0, [])) (sym sees.1);
       live = subst (λ (m : Tabled g.row.T.Denot g.row.T-Entry.Denot). Has m.0.of m.0.of.first) (sym sees.1) (has_left v.of.first v.of.all c.args.other.place.me.0.of.all c.args.token.live);
+      unborn = subst (λ (m : Tabled g.row.T.Denot g.row.T-Entry.Denot). IsUnborn m.0.of m.0.seen) (sym sees.1) sees.4;
     }
 
 pub returns-clause-one : goal.returns-clause-one
