@@ -14,3 +14,4 @@ mod Refused
 mod Agreements
 mod Stepping
 mod Gating
+pub mod Parting

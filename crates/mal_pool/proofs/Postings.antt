@@ -1,13 +1,16 @@
 -- What a poster has posted, one post further.
-use Rattle.std.proofs.Common.{◌≡◌, ℕ, ◌+◌, ◌<◌, ◌≤◌, true, false, List, [], ◌∷◌, ◌++◌, length, map, take, get_or, Result, Ok, Err, is_err, refl, sym, ◌∙◌, ap, append-nil, append_assoc}
+use Rattle.std.proofs.Common.{◌≡◌, ℕ, ◌+◌, ◌<◌, ◌≤◌, true, false, List, [], ◌∷◌, ◌++◌, length, map, take, get_or, Some, Result, Ok, Err, is_err, refl, sym, ◌∙◌, ap, subst, append-nil, append_assoc}
 use Rattle.std.proofs.lemmas.List.{map-append, take_all}
 use Rattle.std.proofs.lemmas.List.Concat.{flat_map-append}
 use Rattle.mal_hall.specs.declared.desk.Post.{Post}
 use Rattle.mal_hall.specs.Desks as desks
 use Rattle.mal_hall.specs.Desks.{DeskCall}
-use Rattle.mal_pool.specs.Runs.{open_post, posts_at, posts_in, behind_openings, taken}
+use Rattle.mal_pool.specs.Runs.{HasPosted, IsHindered, open_post, posts_at, posts_in, behind_openings, taken}
+use Rattle.mal_pool.specs.declared.posting.Hindrance.{Hindrance}
+use Rattle.mal_pool.specs.declared.posting.Hindrance.TheVariants as hindrances
 use Rattle.mal_posts.specs.Course.{Course}
-use Rattle.mal_posts.specs.Dues.{due}
+use Rattle.mal_posts.specs.Dues.{due, left_in}
+use Rattle.mal_posts.specs.declared.cursor.Left.{Left}
 use Rattle.spec_hall.specs.Events.{Event}
 use Rattle.spec_run.proofs.PostingLemmas.{take-one}
 use Rattle.spec_script.specs.Script.{ScriptedJob}
@@ -45,3 +48,21 @@ posted-more tenant jobs e from to old before after (done, all, b) next a = (
 -- behind the openings all that is due are the others
 pub due-others : (c : Course) → c.openings ≡ [] → due c ≡ c.others
 due-others c none = ap (λ (es : List Event). es ++ c.others) none
+
+-- a poster that is hindered before what is due
+pub was-hindered : (tenant : List ℕ) (jobs : List ScriptedJob) (left : Left) (by : Hindrance) (e : Event) (from to : List Event) (old before after : List DeskCall) → HasSoFar tenant jobs from old before → from ≡ left_in jobs left → from ≡ e ∷ to → (last : List DeskCall) × IsHindered by (posts_at e) last × (after ≡ before ++ last) → (mine : List DeskCall) × (after ≡ old ++ mine) × HasPosted tenant jobs (Some (record { left = left; by = by })) mine
+was-hindered tenant jobs left by e from to old before after (done, all, b) place next (last, hindered, a) = (
+  taken (posts_in done) ++ last,
+  further old before after (taken (posts_in done)) last b a,
+  (
+    done,
+    last,
+    all ∙ ap (λ (es : List Event). done ++ es) place,
+    subst (λ (es : List Event). IsHindered by (posts_in es) last) (sym next ∙ place) (in-front by hindered),
+    refl,
+  ),
+)
+  where
+    in-front : (h : Hindrance) → IsHindered h (posts_at e) last → IsHindered h (posts_in (e ∷ to)) last
+    in-front (hindrances.Refused fault) (p, later, are, made) = (p, later ++ posts_in to, ap (λ (ps : List Post). ps ++ posts_in to) are, made)
+    in-front (hindrances.OutOfMemory error) none = none

@@ -1,5 +1,6 @@
 -- What each part of a run does.
-use Rattle.std.specs.Prelude.{◌≡◌, ℕ, zero, suc, ◌≤◌, ◌<◌, Bool, true, false, List, [], ◌++◌, length, sum_by, slice_get, Option, Some, None}
+use Rattle.std.specs.Prelude.{◌≡◌, ℕ, zero, suc, ◌≤◌, ◌<◌, Bool, true, false, List, [], ◌++◌, length, map, min, sum_by, slice_get, Option, Some, None}
+use Rattle.std.specs.Option.{option_map}
 use Rattle.mal_hall.specs.Desks.{DeskCall}
 use Rattle.mal_pool.specs.Gates.{Stops}
 use Rattle.mal_pool.specs.Runs.{HasPosted}
@@ -8,12 +9,32 @@ use Rattle.mal_pool.specs.declared.role.Part.{Part}
 use Rattle.mal_pool.specs.declared.role.Part.TheVariants as parts
 use Rattle.mal_pool.specs.declared.working.End.{End}
 use Rattle.mal_pool.specs.declared.working.End.TheVariants as ends
-use Rattle.mal_posts.specs.declared.cursor.Left.{Left}
+use Rattle.mal_pool.specs.declared.posting.Hindered.{Hindered}
+use Rattle.spec_node.specs.Load.{counted}
+use Rattle.spec_script.specs.Formed.{tenants_of}
 use Rattle.spec_script.specs.Script.{ScriptedJob}
 
 -- how many workers jobs ask for together
 abbrev pub demand_of : List ScriptedJob → ℕ
 demand_of jobs = sum_by (λ j. j.ask.demand) jobs
+
+-- the tenant of the job at a place
+abbrev pub tenant_at : List ScriptedJob → ℕ → Option (List ℕ)
+tenant_at jobs place = option_map (λ j. j.tenant) (slice_get jobs place)
+
+-- the posters of a run of these jobs: one for each tenant, at a job of the tenant
+pub record ArePosters (jobs : List ScriptedJob) (posters : List Part) : Type 0 where
+  pub places : List ℕ
+  pub are : posters ≡ map parts.Poster places
+  pub tenants : map (tenant_at jobs) places ≡ map Some (tenants_of jobs)
+
+-- its workers: of so many those that the jobs can use, by their numbers
+abbrev pub workers_for : ℕ → List ScriptedJob → List Part
+workers_for workers jobs = map parts.Worker (counted 1 (min workers (demand_of jobs)))
+
+-- all its parts: the posters, and then the workers
+abbrev pub AreParts : ℕ → List ScriptedJob → List Part → Type 0
+AreParts workers jobs all = (posters : List Part) × ArePosters jobs posters × (all ≡ posters ++ workers_for workers jobs)
 
 -- a part that a hall of so many workers has in a run of these jobs
 abbrev pub Fits : ℕ → List ScriptedJob → Part → Type 0
@@ -53,9 +74,9 @@ AreLoops stops w turns (suc left) mine stopped =
     (one rest : List DeskCall) × (end : End) × (mine ≡ one ++ rest) × Works stops w turns 0 None one end
     × by_test (is_idle end) (AreLoops stops w turns left rest stopped) ((rest ≡ []) × (stopped ≡ is_stop end))
 
--- what a part did: a poster posted the jobs of its tenant up to the place that it hands back, and a worker worked
--- through 33 loops of 2^20 turns at most and hands none back
-abbrev pub HasPlayed : Stops → List ScriptedJob → Part → Option Left → Bool → List DeskCall → Type 0
-HasPlayed stops jobs (parts.Poster place) left stopped mine =
-    (stopped ≡ false) × ((j : ScriptedJob) × (slice_get jobs place ≡ Some j) × HasPosted j.tenant jobs left mine)
-HasPlayed stops jobs (parts.Worker number) left stopped mine = (left ≡ None) × AreLoops stops number 1048576 33 mine stopped
+-- what a part did: a poster posted the jobs of its tenant up to the place at which it was hindered, and a worker worked
+-- through 33 loops of 2^20 turns at most and was not
+abbrev pub HasPlayed : Stops → List ScriptedJob → Part → Option Hindered → Bool → List DeskCall → Type 0
+HasPlayed stops jobs (parts.Poster place) hindered stopped mine =
+    (stopped ≡ false) × ((j : ScriptedJob) × (slice_get jobs place ≡ Some j) × HasPosted j.tenant jobs hindered mine)
+HasPlayed stops jobs (parts.Worker number) hindered stopped mine = (hindered ≡ None) × AreLoops stops number 1048576 33 mine stopped

@@ -1,4 +1,4 @@
-use Rattle.std.specs.Prelude.{◌≡◌, ◌⊎◌, ℕ, List, [], ◌∷◌, ◌++◌, map, flat_map, fold, Option, Some, None, Ok, Err}
+use Rattle.std.specs.Prelude.{◌≡◌, ℕ, List, [], ◌∷◌, ◌++◌, map, flat_map, fold, Option, Some, None, Ok, Err}
 use Rattle.spec_hall.specs.Calls.{recalled}
 use Rattle.spec_hall.specs.Driven.{GrowsByTurns}
 use Rattle.spec_hall.specs.Events.{Event, Open, Revise, Reask, Close}
@@ -7,11 +7,13 @@ use Rattle.spec_run.specs.Complete.{job_events}
 use Rattle.spec_script.specs.Script.{ScriptedJob}
 use Rattle.mal_hall.specs.declared.desk.Post.{Post}
 use Rattle.mal_hall.specs.declared.desk.Post.TheVariants as posts
-use Rattle.mal_hall.specs.declared.desk.PostFault.{PostFault}
 use Rattle.mal_hall.specs.Desks as desks
 use Rattle.mal_hall.specs.Desks.{DeskCall, event_of}
 use Rattle.mal_posts.specs.Dues.{left_in, of_tenant}
 use Rattle.mal_posts.specs.declared.cursor.Left.{Left}
+use Rattle.mal_pool.specs.declared.posting.Hindered.{Hindered}
+use Rattle.mal_pool.specs.declared.posting.Hindrance.{Hindrance}
+use Rattle.mal_pool.specs.declared.posting.Hindrance.TheVariants as hindrances
 
 -- the post that opens a job of a script
 abbrev pub open_post : ScriptedJob → Post
@@ -37,17 +39,19 @@ behind_openings tenant jobs = flat_map job_events (of_tenant tenant jobs)
 abbrev pub taken : List Post → List DeskCall
 taken ps = map (λ p. desks.Posted p (Ok tt)) ps
 
--- the last call of a poster that stopped, if it made one more: its post was refused
-abbrev pub IsRefusal : List DeskCall → Type 0
-IsRefusal calls = (calls ≡ []) ⊎ ((p : Post) × (fault : PostFault) × (calls ≡ desks.Posted p (Err fault) ∷ []))
+-- the last call of a poster that is hindered before these posts: the first of them was refused; or it made none, since
+-- memory was wanting for a copy of that
+abbrev pub IsHindered : Hindrance → List Post → List DeskCall → Type 0
+IsHindered (hindrances.Refused fault) posts calls = (p : Post) × (later : List Post) × (posts ≡ p ∷ later) × (calls ≡ desks.Posted p (Err fault) ∷ [])
+IsHindered (hindrances.OutOfMemory error) posts calls = calls ≡ []
 
--- the poster of a tenant has posted all behind the openings, or what was posted and what is left make that, and the next
--- post was refused
-abbrev pub HasPosted : List ℕ → List ScriptedJob → Option Left → List DeskCall → Type 0
+-- the poster of a tenant has posted all behind the openings, or it was hindered, and what was posted and what is left make
+-- that
+abbrev pub HasPosted : List ℕ → List ScriptedJob → Option Hindered → List DeskCall → Type 0
 HasPosted tenant jobs None mine = mine ≡ taken (posts_in (behind_openings tenant jobs))
-HasPosted tenant jobs (Some l) mine =
-    (done : List Event) × (last : List DeskCall) × (behind_openings tenant jobs ≡ done ++ left_in jobs l) × IsRefusal last
-    × (mine ≡ taken (posts_in done) ++ last)
+HasPosted tenant jobs (Some h) mine =
+    (done : List Event) × (last : List DeskCall) × (behind_openings tenant jobs ≡ done ++ left_in jobs h.left)
+    × IsHindered h.by (posts_in (left_in jobs h.left)) last × (mine ≡ taken (posts_in done) ++ last)
 
 -- what a poster left: the rest of the job at a place, and the later jobs of its tenant
 abbrev pub left_by : List ScriptedJob → Left → List Post

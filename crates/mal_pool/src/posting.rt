@@ -1,8 +1,8 @@
 //! Posting: by a tenant's poster while workers work.
 
-ghost use Rattle.std.specs.Prelude.{◌≡◌, List, ◌++◌, map, true, false, OnOk, OnErr, IfOk};
+ghost use Rattle.std.specs.Prelude.{◌≡◌, List, ◌++◌, map, true, false, OnOk, OnErr, IfOk, IfErr};
 ghost use Rattle.mal_hall.specs.Desks.{DeskCall};
-ghost use Rattle.mal_pool.specs.{Refusals.{EndsRefused, is_want}, Runs.{HasPosted, IsRefusal, open_post, posts_at, taken}};
+ghost use Rattle.mal_pool.specs.{Refusals.{EndsRefused, is_want}, Runs.{HasPosted, IsHindered, open_post, posts_at, taken}};
 ghost use Rattle.mal_posts.specs.Dues.{event_of};
 
 use crate::board::Board;
@@ -14,6 +14,20 @@ use mal_posts::{Cursor, Due};
 use mal_script::ScriptJob;
 use std::alloc::AllocError;
 use std::sync::Wait;
+
+/// What hinders a poster: its next post was refused, or memory was wanting for a copy of it.
+#[derive(Clone, Copy)]
+pub enum Hindrance {
+    Refused(PostFault),
+    OutOfMemory(AllocError),
+}
+
+/// How far a poster got that was hindered, and by what.
+#[derive(Clone, Copy)]
+pub struct Hindered {
+    pub left: Left,
+    pub by: Hindrance,
+}
 
 /// Opens all jobs, in the order of the script: true where each is opened, false where one is refused for another cause
 /// than want of memory.
@@ -52,33 +66,23 @@ pub fn refused(fault: PostFault) -> Result<bool, AllocError>
     ensures other { IfOk result (λ done. (done ≡ false) × (is_want fault ≡ false)) }
     ensures wanting { OnErr result (is_want fault ≡ true) }
 {
-    if wanted(fault) {
-        return Err(AllocError);
-    }
-    Ok(false)
-}
-
-/// Whether a post was refused for want of memory.
-fn wanted(fault: PostFault) -> bool
-    ensures { result ≡ is_want fault }
-{
     match fault {
-        PostFault::Open(OpenFault::OutOfMemory) => true,
-        PostFault::Revise(ReviseFault::OutOfMemory) => true,
-        PostFault::Reask(ReaskFault::OutOfMemory) => true,
-        _ => false,
+        PostFault::Open(OpenFault::OutOfMemory) => Err(AllocError),
+        PostFault::Revise(ReviseFault::OutOfMemory) => Err(AllocError),
+        PostFault::Reask(ReaskFault::OutOfMemory) => Err(AllocError),
+        _ => Ok(false),
     }
 }
 
 /// Posts the steps and the closing of a tenant's jobs, job by job. Stops at a post that is refused, or for which
-/// memory is wanting, and hands back the place.
+/// memory is wanting, and at no other, and hands back the place with what hindered it.
 pub fn post_all<R: Wait, B: Board>(
     rt: &R,
     board: &B,
     pass: B::Pass,
     tenant: Name,
     jobs: &[ScriptJob],
-) -> (B::Pass, Option<Left>)
+) -> (B::Pass, Option<Hindered>)
     requires of { B.is_of board.now pass }
     ensures of { B.is_of board.now result.0 }
     ensures calls { (mine : List DeskCall) × (B.calls result.0 ≡ B.calls pass ++ mine)
@@ -90,28 +94,38 @@ pub fn post_all<R: Wait, B: Board>(
     while let Some(due) = cursor.next() {
         let (back, done) = post_due(rt, board, pass, &due);
         pass = back;
-        if !done {
-            return (pass, Some(left));
+        match done {
+            Ok(()) => {}
+            Err(by) => return (pass, Some(Hindered { left, by })),
         }
         left = cursor.left();
     }
     (pass, None)
 }
 
-/// Posts what is due, a copy that is made before the hall is asked. False where memory was wanting or the post was
-/// refused.
-fn post_due<R: Wait, B: Board>(rt: &R, board: &B, pass: B::Pass, due: &Due<'_>) -> (B::Pass, bool)
+/// Posts what is due, a copy that is made before the hall is asked. A hindrance where memory was wanting for it or the
+/// post was refused.
+fn post_due<R: Wait, B: Board>(
+    rt: &R,
+    board: &B,
+    pass: B::Pass,
+    due: &Due<'_>,
+) -> (B::Pass, Result<(), Hindrance>)
     requires of { B.is_of board.now pass }
     ensures of { B.is_of board.now result.0 }
-    ensures taken { result.1 ≡ true → B.calls result.0 ≡ B.calls pass ++ taken (posts_at (event_of due.now)) }
-    ensures refused { result.1 ≡ false
-        → (last : List DeskCall) × IsRefusal last × (B.calls result.0 ≡ B.calls pass ++ last) }
+    ensures taken { OnOk result.1 (B.calls result.0 ≡ B.calls pass ++ taken (posts_at (event_of due.now))) }
+    ensures hindered { IfErr result.1
+        (λ by. (last : List DeskCall) × IsHindered by (posts_at (event_of due.now)) last
+        × (B.calls result.0 ≡ B.calls pass ++ last)) }
 {
     // Made before the lock is asked for: what the hall does with it under the lock does not grow with its clauses.
     let post = match post_of(due) {
         Ok(post) => post,
-        Err(_) => return (pass, false),
+        Err(error) => return (pass, Err(Hindrance::OutOfMemory(error))),
     };
     let (pass, answer) = board.post(rt, pass, post);
-    (pass, answer.is_ok())
+    match answer {
+        Ok(()) => (pass, Ok(())),
+        Err(fault) => (pass, Err(Hindrance::Refused(fault))),
+    }
 }

@@ -6,7 +6,7 @@ ghost use Rattle.mal_pool.specs.{Gates.{StopsSomewhere}, Parts.{AreLoops, Fits, 
 
 use crate::board::Board;
 use crate::gate::Gate;
-use crate::posting::{Left, post_all};
+use crate::posting::{Hindered, post_all};
 use crate::working::{End, work_loop};
 use mal_learn::Scratch;
 use mal_script::ScriptJob;
@@ -34,11 +34,11 @@ pub struct Role<P> {
     pub part: Part,
 }
 
-/// What a part hands back: its pass, what it did not post, and whether the gate stopped it.
+/// What a part hands back: its pass, how far it posted where it was hindered, and whether the gate stopped it.
 #[derive(Drop)]
 pub struct Played<P> {
     pub pass: P,
-    pub left: Option<Left>,
+    pub hindered: Option<Hindered>,
     pub stopped: bool,
 }
 
@@ -55,16 +55,16 @@ pub fn play<R: Wait, B: Board, G: Gate>(
     requires fits { Fits (B.workers board.now) jobs.now role.part }
     ensures of { B.is_of board.now result.pass }
     ensures played { (mine : List DeskCall) × (B.calls result.pass ≡ B.calls role.pass ++ mine)
-        × HasPlayed (G.stops gate.now) jobs.now role.part result.left result.stopped mine }
+        × HasPlayed (G.stops gate.now) jobs.now role.part result.hindered result.stopped mine }
     ensures stopped { result.stopped ≡ true → StopsSomewhere (G.stops gate.now) }
 {
     match role.part {
         Part::Poster(place) => {
             let tenant = jobs[place].tenant();
-            let (pass, left) = post_all(rt, board, role.pass, tenant, jobs);
+            let (pass, hindered) = post_all(rt, board, role.pass, tenant, jobs);
             Played {
                 pass,
-                left,
+                hindered,
                 stopped: false,
             }
         }
@@ -74,7 +74,7 @@ pub fn play<R: Wait, B: Board, G: Gate>(
             drop(scratch);
             Played {
                 pass,
-                left: None,
+                hindered: None,
                 stopped,
             }
         }

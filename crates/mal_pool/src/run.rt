@@ -1,8 +1,9 @@
 //! Running a script with many workers.
 
-ghost use Rattle.std.specs.Prelude.{◌≡◌, ◌≤◌, min, true, List, [], IfOk, IfSome, OnOk};
+ghost use Rattle.std.specs.Prelude.{◌≡◌, ◌≤◌, min, true, List, [], map, IfOk, IfSome, OnOk};
 ghost use Rattle.std.specs.List.{All, filter_map, list_any};
-ghost use Rattle.mal_pool.specs.{Gates.{LosesByStops, StopsSomewhere}, Parts.{Fits, demand_of}, Posts.{HasRun}, Runs.{IsSettled}, Testing.{HasPosts}};
+ghost use Rattle.std.specs.Option.{option_map};
+ghost use Rattle.mal_pool.specs.{Gates.{LosesByStops, StopsSomewhere}, Parts.{AreParts, ArePosters, Fits, demand_of}, Posts.{HasRun}, Runs.{IsSettled}, Testing.{HasPosts}};
 ghost use Rattle.spec_hall.specs.{Driven.{GrowsByTurns, IsDriven}, Events.{Event}, Legal.{Legal}, States.{leases, lives, states}};
 ghost use Rattle.spec_run.specs.{Complete.{script_events}, Losses.{NoneIsLost, is_loss}};
 
@@ -168,7 +169,7 @@ fn take_down<B: Board>(
     ensures settled { IfOk result
         (λ o. IfSome o
         (λ h. (before : List Event) × NoneIsLost before
-        × IsSettled h.workers jobs.now (filter_map (λ x. x.left) played.items) before h.events)) }
+        × IsSettled h.workers jobs.now (filter_map (λ x. option_map (λ h. h.left) x.hindered) played.items) before h.events)) }
 {
     let left = left_of(alloc, &played)?;
     let pass = join_all(&board, pass, played);
@@ -308,22 +309,29 @@ fn play_all<R: Threads + Wait + Sync, B: Board, G: Gate>(
 /// A poster for each tenant, and the workers, but no more of them than all jobs together ask for.
 fn parts_of(alloc: Global, jobs: &[ScriptJob], workers: u32) -> Result<Vec<Part>, AllocError>
     requires { workers ≤ 64 }
-    ensures { IfOk result (λ v. All (Fits workers jobs.now) v.items) }
+    ensures { IfOk result (λ v. AreParts workers jobs.now v.items) }
 {
-    let mut parts = Vec::new(alloc);
+    let mut parts = posters_of(alloc, jobs)?;
+    for before in 0..useful(jobs, workers) {
+        parts.push(Part::Worker(before + 1))?;
+    }
+    Ok(parts)
+}
+
+/// A poster for each tenant, at the tenant's first job.
+fn posters_of(alloc: Global, jobs: &[ScriptJob]) -> Result<Vec<Part>, AllocError>
+    ensures { IfOk result (λ v. ArePosters jobs.now v.items) }
+{
+    let mut posters = Vec::new(alloc);
     let mut names = Vec::new(alloc);
-    'tenants: for place in 0..jobs.len() {
+    for place in 0..jobs.len() {
         let tenant = jobs[place].tenant();
         if !has_name(names.as_slice(), tenant) {
             names.push(tenant)?;
-            parts.push(Part::Poster(place))?;
+            posters.push(Part::Poster(place))?;
         }
     }
-    let used = useful(jobs, workers);
-    'workers: for number in 1..=used {
-        parts.push(Part::Worker(number))?;
-    }
-    Ok(parts)
+    Ok(posters)
 }
 
 /// How many of so many workers the jobs can use at a time: no more than they ask for together.
@@ -342,7 +350,7 @@ fn useful(jobs: &[ScriptJob], workers: u32) -> u32
     sum
 }
 
-/// Gives each part a pass of its own.
+/// Gives each part a pass of its own, in their order.
 fn deal<B: Board>(
     alloc: Global,
     board: &B,
@@ -355,6 +363,7 @@ fn deal<B: Board>(
     ensures of { IfOk result (λ r. B.is_of board.now r.0) }
     ensures roles { IfOk result
         (λ r. All (λ x. B.is_of board.now x.pass × Fits (B.workers board.now) jobs.now x.part) r.1.items) }
+    ensures parts { IfOk result (λ r. map (λ x. x.part) r.1.items ≡ parts.now) }
 {
     // For the proof.
     let _ = jobs.len();
@@ -373,12 +382,12 @@ fn deal<B: Board>(
 
 /// Lists what was left.
 fn left_of<P: Drop>(alloc: Global, played: &[Played<P>]) -> Result<Vec<Left>, AllocError>
-    ensures { IfOk result (λ v. v.items ≡ filter_map (λ x. x.left) played.now) }
+    ensures { IfOk result (λ v. v.items ≡ filter_map (λ x. option_map (λ h. h.left) x.hindered) played.now) }
 {
     let mut left = Vec::new(alloc);
     for one in played {
-        match one.left {
-            Some(place) => left.push(place)?,
+        match one.hindered {
+            Some(hindered) => left.push(hindered.left)?,
             None => {}
         }
     }

@@ -1,9 +1,9 @@
 //! Tests of a hall's history: whether a lease was lost, and whether tenants posted what a script says and no job moved.
 
-ghost use Rattle.std.specs.Prelude.{◌≡◌, ◌↔◌, ◌≤◌, true, ◌&&◌, not, [], length, IfOk, IsTrue};
+ghost use Rattle.std.specs.Prelude.{◌≡◌, ◌↔◌, ◌≤◌, true, ◌&&◌, not, [], bytes_eq, length, IfOk, IsTrue};
 ghost use Rattle.std.specs.List.{list_any};
 ghost use Rattle.mal_pool.specs.Testing.{AreThePosts, HasStep, HasSteps, HaveContents, HasPosts, is_loss, is_move};
-ghost use Rattle.spec_hall.specs.{Dressed.{revisions_of}, Driven.{was_lost}, Own.{is_text}, States.{states}};
+ghost use Rattle.spec_hall.specs.{Dressed.{revisions_of}, Driven.{was_lost}, States.{states}};
 ghost use Rattle.spec_run.specs.Complete.{key_of_job};
 ghost use Rattle.spec_script.specs.{Formed.{MayAllFollow}, Limits.{served}, Script.{revisions_in}};
 
@@ -81,9 +81,9 @@ fn is_move(event: &Event) -> bool
 
 /// Whether a name is among these.
 pub fn has_name(names: &[Name], tenant: Name) -> bool
-    ensures { result ≡ list_any (λ name. is_text name tenant) names.now }
+    ensures { result ≡ list_any (bytes_eq tenant) names.now }
 {
-    names.iter().any(|name| *name == tenant)
+    names.iter().any(|name| tenant == *name)
 }
 
 /// Whether the jobs of a hall have the revisions of the script's.
