@@ -1,17 +1,19 @@
 -- What holds of every text, in the form in which the law functions state it.
-use Rattle.std.specs.Prelude.{◌≡◌, ◌↔◌, ◌<◌, ℕ, false, List, [], ◌∷◌, ◌++◌, length, take, codes, Ok, Err}
+use Rattle.std.specs.Prelude.{◌≡◌, ◌≢◌, ◌↔◌, ◌<◌, ℕ, false, List, [], ◌∷◌, ◌++◌, length, take, codes, Ok, Err}
 use Rattle.std.specs.List.{list_any}
 use Rattle.mal_base.specs.declared.line_fault.LineFault.{LineFault}
 use Rattle.spec_text.specs.Inputs.{lines_of}
 use Rattle.spec_dimacs.specs.Rows.{rows_of}
 use Rattle.mal_history.specs.declared.event.Event.{Event}
 use Rattle.mal_history.specs.Formed.{IsHistory, written_read}
+use Rattle.mal_history.specs.Grammar.{numbered}
+use Rattle.mal_history.specs.Reading as history
 use Rattle.mal_history.specs.Text.{history_text}
 use Rattle.spec_script.specs.Formed.{IsScript}
 use Rattle.spec_script.specs.Limits.{served}
 use Rattle.spec_script.specs.Script.{Scripted, spelling}
 use Rattle.mal_account.specs.Accounts.{Account, is_history_line, read_text}
-use Rattle.mal_account.specs.Accounts.Fault.{InScript}
+use Rattle.mal_account.specs.Accounts.Fault.{InHistory, InScript}
 use Rattle.mal_account.specs.Grammar.{Spells}
 
 -- a text spells an account exactly where reading gives it: no text spells two accounts, or has a first fault and spells
@@ -41,3 +43,11 @@ ScriptFaultIsFirst =
     (first front : List ℕ) (behind others : List (List (List ℕ))) (text other : List ℕ) (line : ℕ) (fault : LineFault)
     → IsCutBehind text first behind → IsCutBehind other front others → read_text text ≡ Err (InScript line fault)
     → line < length (lines_of first) → take line (lines_of front) ≡ take line (lines_of first) → read_text other ≡ Err (InScript line fault)
+
+-- nor does what stands behind a faulty line of the history: where some line of it is not empty, each text with the same
+-- script and the same lines of the history, up to that one, has the same first fault
+abbrev pub HistoryFaultIsFirst : Type 0
+HistoryFaultIsFirst =
+    (first last end text other : List ℕ) (line : ℕ) (fault : history.Fault)
+    → IsCutBehind text first (rows_of last) → IsCutBehind other first (rows_of end) → read_text text ≡ Err (InHistory line fault)
+    → numbered 0 (rows_of last) ≢ [] → take line (lines_of end) ≡ take line (lines_of last) → read_text other ≡ Err (InHistory line fault)

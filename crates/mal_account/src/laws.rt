@@ -1,6 +1,6 @@
 //! Laws about accounts and their texts, as the contracts of functions without a body.
 
-ghost use Rattle.mal_account.specs.{Examples.{HasExamples}, Laws.{ScriptFaultIsFirst, ScriptFaultStays, SpelledIsRead, WrittenIsRead}};
+ghost use Rattle.mal_account.specs.{Examples.{HasExamples}, Laws.{HistoryFaultIsFirst, ScriptFaultIsFirst, ScriptFaultStays, SpelledIsRead, WrittenIsRead}};
 
 /// What is said of small texts.
 #[tactic(auto, using(crate::proofs::AccountExampleLemmas::examples))]
@@ -19,8 +19,11 @@ pub fn written_is_read()
     ensures { WrittenIsRead }
 {}
 
-/// Nothing behind a faulty line of the script counts.
+/// Nothing behind a faulty line counts, whether it is of the script or of the history.
 pub fn nothing_behind_counts()
     ensures stays { ScriptFaultStays }
     ensures first { ScriptFaultIsFirst }
-{}
+    ensures history { HistoryFaultIsFirst }
+{
+    mal_history::fault_is_first();
+}
