@@ -1,10 +1,11 @@
 -- What an inquiry keeps, step by step.
-use Rattle.std.proofs.Common.{◌≡◌, ℕ, suc, ◌+◌, ◌≤◌, List, [], ◌∷◌, ◌++◌, length, Some, None, Result, Ok, Err, false, true, refl, sym, ap, subst, ◌∙◌, arith}
+use Rattle.std.proofs.Common.{◌≡◌, ℕ, suc, ◌+◌, ◌≤◌, List, [], ◌∷◌, ◌++◌, length, Some, None, Result, Ok, Err, false, true, refl, sym, ap, subst, ◌∙◌, append-nil, arith}
 use Rattle.std.specs.Prelude.{IfOk, OnOk}
 use Rattle.std.proofs.lemmas.List.{length-append, length-map}
 use Rattle.mal_base.specs.Asks.{Terms}
 use Rattle.mal_base.specs.declared.hall_fault.OpenFault.{OpenFault}
 use Rattle.mal_base.specs.declared.hall_fault.ReviseFault.{ReviseFault}
+use Rattle.mal_base.specs.declared.hall_fault.ReviseFault.TheVariants as revising
 use Rattle.mal_hall.specs.HallView.{HallView}
 use Rattle.mal_hall.specs.Replying.{HasJob}
 use Rattle.mal_job.specs.Replying.{Tells}
@@ -164,6 +165,10 @@ pub revising-wanted : (x : HallView) (k : Key) (asked : ℕ) (r : Posted) (fault
 revising-wanted x k asked r fault history kept may called other =
     let bad : false ≡ true = other ∙ revise-wanted k kept.revisions x.events r fault called.events kept.is_open (subst (λ (ps : List Posted). MayAsk ps r) kept.is_open.posted may) called.call in
     absurd (cc)
+
+-- and then nothing is entered
+pub revising-same : (workers : ℕ) (past : List Event) (k : Key) (r : Posted) (history : List Event) → HasCalled workers past (Revises k r) (Err revising.OutOfMemory) history → history ≡ past
+revising-same workers past k r history called = called.grown ∙ (ap (λ (es : List Event). past ++ es) called.call.2 ∙ append-nil past)
 
 pub job-there : (x : HallView) (k : Key) (asked : ℕ) → IsKept x k asked → job_of k (states x.events) ≡ None → ⊥
 job-there x k asked kept none = let bad : None ≡ Some (titled x.events k) = sym none ∙ open-found k kept.revisions x.events kept.is_open in absurd (cc)

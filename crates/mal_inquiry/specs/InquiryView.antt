@@ -1,11 +1,11 @@
-use Rattle.std.specs.Prelude.{◌≡◌, ℕ, ◌+◌, List, [], ◌∷◌, ◌++◌, length, Some}
+use Rattle.std.specs.Prelude.{◌≡◌, ◌⊎◌, ℕ, ◌+◌, List, [], ◌∷◌, ◌++◌, length, Some}
 use Rattle.mal_hall.specs.HallView.{HallView}
 use Rattle.mal_revision.specs.Posted.{Posted}
 use Rattle.spec_report.specs.Replies.{ReplyBody}
 use Rattle.spec_job.specs.KeyedJob.{Key}
 use Rattle.spec_job.specs.Replies.{body_of}
 use Rattle.spec_job.specs.SoloMachine.{SoloMachine, solo}
-use Rattle.spec_hall.specs.Driven.{IsIdle}
+use Rattle.spec_hall.specs.Driven.{GrowsByTurns, IsIdle}
 use Rattle.spec_hall.specs.Events.{Event, Revise}
 use Rattle.spec_hall.specs.Legal.{Allowed}
 use Rattle.spec_hall.specs.Own.{own}
@@ -38,6 +38,11 @@ next_in i = length (machine i).revisions + 1
 pub record HasPosted (before : InquiryView) (r : Posted) (after : InquiryView) : Type 0 where
   pub may : Allowed 1 before.events (Revise before.key (next_in before) r)
   pub grown : after.events ≡ before.events ++ Revise before.key (next_in before) r ∷ []
+
+-- a revision was asked as far as there was memory: nothing was entered, or it was posted, and turns of the one worker
+-- followed
+abbrev pub HasBegun : InquiryView → Posted → InquiryView → Type 0
+HasBegun before r after = (after ≡ before) ⊎ ((mid : InquiryView) × HasPosted before r mid × GrowsByTurns 1 mid.events after.events)
 
 -- no node may start, and every revision is answered
 pub record IsAnswered (i : InquiryView) : Type 0 where

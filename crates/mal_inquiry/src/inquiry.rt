@@ -1,13 +1,11 @@
 //! An inquiry.
 
-ghost use Rattle.std.specs.Prelude.{◌≡◌, ◌≤◌, List, [], Err, Some, length, IfOk, OnOk};
+ghost use Rattle.std.specs.Prelude.{◌≡◌, ◌≤◌, List, [], length, IfOk, OnErr, OnOk};
 ghost use Rattle.mal_base.specs.Asks.{Terms};
-ghost use Rattle.mal_inquiry.specs.InquiryView.{IsAnswered, HasPosted, TellsLast, machine};
+ghost use Rattle.mal_inquiry.specs.InquiryView.{HasBegun, HasPosted, IsAnswered, TellsLast, machine};
 ghost use Rattle.mal_report.specs.Told.{body_of};
-ghost use Rattle.mal_revision.specs.Posted.{Posted};
-ghost use Rattle.spec_hall.specs.{Calls.{Opens, Revises, wanted}, Dressed.{keyed}, Driven.{GrowsByTurns}};
+ghost use Rattle.spec_hall.specs.{Dressed.{keyed}, Driven.{GrowsByTurns}};
 ghost use Rattle.spec_inquiry.specs.{Asking.{HasAsked, MayAsk}, Rounds.{IsInquiry, Round, revisions_in}};
-ghost use Rattle.spec_job.specs.KeyedJob.{Key};
 
 use mal_base::{Ask, Name};
 use mal_hall::{Hall, OpenFault, ReplyFault, ReviseFault};
@@ -59,12 +57,13 @@ impl Inquiry {
     }
 
     /// Asks the next revision, for which there is room behind those that were asked, and gives what is told of it, with
-    /// its evidence: the revision is posted, and the hall is driven until no node may start. After want of memory the
-    /// events that were entered stay, and no more rounds may be asked.
+    /// its evidence: the revision is posted, and the hall is driven until no node may start. After want of memory nothing
+    /// was entered, or the events that were entered stay and no more rounds may be asked.
     pub fn ask(&mut self, revision: Revision, scratch: &mut Scratch) -> Result<Told, AllocError>
         requires may { (terms : Terms) × (rounds : List Round)
             × IsInquiry self.old.key terms rounds self.old.events × MayAsk (revisions_in rounds) revision }
         ensures key { self.new.key ≡ self.old.key }
+        ensures begun { HasBegun self.old revision self.new }
         ensures asked { (terms : Terms) (rounds : List Round) → IsInquiry self.old.key terms rounds self.old.events
             → IfOk result
             (λ told. HasAsked self.old.key terms rounds (record { revision = revision; told = body_of told }) self.new.events) }
@@ -79,15 +78,15 @@ impl Inquiry {
         requires { MayAsk (machine self.old).revisions revision }
         ensures key { self.new.key ≡ self.old.key }
         ensures posted { OnOk result (HasPosted self.old revision self.new) }
+        ensures kept { OnErr result (self.new ≡ self.old) }
     {
         match self.hall.revise_job(&self.tenant, &self.job, revision) {
             Ok(()) => {}
-            Err(fault) => {
-                if !was_wanting_to_revise(fault) {
-                    unreachable!();
-                }
-                return Err(AllocError);
-            }
+            Err(ReviseFault::NoJob) => unreachable!(),
+            Err(ReviseFault::Closed) => unreachable!(),
+            Err(ReviseFault::RevisionsFull) => unreachable!(),
+            Err(ReviseFault::JobFull { .. }) => unreachable!(),
+            Err(ReviseFault::OutOfMemory) => return Err(AllocError),
         }
         self.asked += 1;
         Ok(())
@@ -125,36 +124,9 @@ fn open(hall: &mut Hall, tenant: Name, job: Name, ask: Ask) -> Result<(), AllocE
 {
     match hall.open_job(tenant, job, ask) {
         Ok(()) => Ok(()),
-        Err(fault) => {
-            if !was_wanting_to_open(fault) {
-                unreachable!();
-            }
-            Err(AllocError)
-        }
-    }
-}
-
-/// Whether memory was wanting where a job was not opened.
-fn was_wanting_to_open(fault: OpenFault) -> bool
-    ensures { (k : Key) (ask : Terms) → result ≡ wanted (Opens k ask) (Err fault) }
-{
-    match fault {
-        OpenFault::Duplicate => false,
-        OpenFault::TenantFull => false,
-        OpenFault::HallFull => false,
-        OpenFault::OutOfMemory => true,
-    }
-}
-
-/// Whether memory was wanting where a revision was not posted.
-fn was_wanting_to_revise(fault: ReviseFault) -> bool
-    ensures { (k : Key) (r : Posted) → result ≡ wanted (Revises k r) (Err fault) }
-{
-    match fault {
-        ReviseFault::NoJob => false,
-        ReviseFault::Closed => false,
-        ReviseFault::RevisionsFull => false,
-        ReviseFault::JobFull { .. } => false,
-        ReviseFault::OutOfMemory => true,
+        Err(OpenFault::Duplicate) => unreachable!(),
+        Err(OpenFault::TenantFull) => unreachable!(),
+        Err(OpenFault::HallFull) => unreachable!(),
+        Err(OpenFault::OutOfMemory) => Err(AllocError),
     }
 }

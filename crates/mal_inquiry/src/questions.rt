@@ -4,7 +4,7 @@ ghost use Rattle.std.specs.Prelude.{◌≡◌, ◌<◌, true, ◌∷◌, ◌++�
 ghost use Rattle.mal_revision.specs.Posted.{is_posted};
 
 use mal_base::{ClauseList, Lit};
-use mal_revision::Revision;
+use mal_revision::{Revision, RevisionFault};
 use std::alloc::{AllocError, Global};
 
 /// The revision of these parts, which may be posted.
@@ -20,7 +20,10 @@ pub fn posted(
 {
     match Revision::new(alloc, variables, clauses, assumptions) {
         Ok(revision) => Ok(revision),
-        Err(_) => Err(AllocError),
+        Err(RevisionFault::Opposite { .. }) => unreachable!(),
+        Err(RevisionFault::VarTooLarge { .. }) => unreachable!(),
+        Err(RevisionFault::Limit { .. }) => unreachable!(),
+        Err(RevisionFault::OutOfMemory) => Err(AllocError),
     }
 }
 

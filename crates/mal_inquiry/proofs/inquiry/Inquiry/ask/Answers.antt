@@ -1,3 +1,4 @@
+use Rattle.std.proofs.Common.{inl, inr}
 use Rattle.mal_inquiry.proofs.InquiryLemmas.{asked-on, room-behind, some-last}
 use Rattle.mal_inquiry.proofs.inquiry.Inquiry.ask.Goals as goal
 
@@ -9,3 +10,12 @@ told-requires-clause-some c = some-last c.args.self.now c.post.new.self c.drive.
 
 pub returns-clause-asked : goal.returns-clause-asked
 returns-clause-asked c = asked-on c.told.result c.args.self.now c.post.new.self c.drive.new.self c.args.revision (record { posted_key = c.post.ensures.key; key = c.drive.ensures.key; posted = c.in_ok-post.ensures.posted; turns = c.drive.ensures.turns }) c.in_ok-drive.ensures.answered c.told.ensures
+
+pub returns-in_err-post-clause-begun : goal.returns-in_err-post-clause-begun
+returns-in_err-post-clause-begun c = inl c.in_err-post.ensures.kept
+
+pub returns-in_err-drive-clause-begun : goal.returns-in_err-drive-clause-begun
+returns-in_err-drive-clause-begun c = inr (c.post.new.self, c.in_ok-post.ensures.posted, c.drive.ensures.turns)
+
+pub returns-clause-begun : goal.returns-clause-begun
+returns-clause-begun c = inr (c.post.new.self, c.in_ok-post.ensures.posted, c.drive.ensures.turns)
