@@ -1,20 +1,26 @@
 -- A job that moves from one hall to another.
 use Rattle.std.proofs.Common.{◌≡◌, ◌≢◌, ℕ, ◌+◌, ◌-◌, ◌<◌, ◌≤◌, Bool, true, false, cond, not, ◌||◌, ◌&&◌, ◌==◌, nat_lt, List, [], ◌∷◌, ◌++◌, length, get_or, slice_set, Some, None, Ok, Err, refl, sym, ◌∙◌, ap, ap₂, zero, suc, subst, arith, append-nil}
+use Rattle.std.specs.Prelude.{OnErr, OnOk, Result, find, is_some}
 use Rattle.std.specs.List.{list_any}
 use Rattle.std.proofs.lemmas.Bool.{and_from, lt-ltb}
 use Rattle.std.proofs.lemmas.Bool.Decides.{Decides-eqb}
+use Rattle.std.proofs.lemmas.List.Sums.{sum_by-cons}
 use Rattle.std.proofs.lemmas.List.{get_or-set_same, length-append, length-set, set-get_or}
 use Rattle.mal_base.specs.declared.hall_fault.AdmitFault.{AdmitFault}
 use Rattle.mal_base.specs.declared.hall_fault.AdmitFault.TheVariants as admitting
+use Rattle.mal_base.specs.declared.hall_fault.PackFault.TheVariants as packing
+use Rattle.spec_node.specs.Load.{counted}
+use Rattle.spec_job.specs.Counts.{starts_out}
 use Rattle.spec_job.specs.KeyedJob.{Key, KeyedJob}
-use Rattle.spec_job.specs.SoloMachine.{Own}
-use Rattle.spec_hall.specs.Calls.{Admits, HasCalled, IsAdmission, IsAdmitting, MayCome}
+use Rattle.spec_job.specs.SoloMachine.{NodeSlot, Own, SoloMachine, place_at, solo, vacant}
+use Rattle.spec_hall.specs.Calls.{Admits, HasCalled, IsAdmission, IsAdmitting, MayCome, Packs, first_out}
 use Rattle.spec_hall.specs.Events.{Event, Arrive, Leave}
-use Rattle.spec_hall.specs.Legal.{MayArrive, job_of, jobs_of, tenant_count}
-use Rattle.spec_hall.specs.Own.{brought_by, is_key}
+use Rattle.spec_hall.specs.Legal.{Legal, MayArrive, MayLeave, job_of, jobs_of, tenant_count}
+use Rattle.spec_hall.specs.Own.{brought_by, is_key, own}
 use Rattle.spec_hall.specs.States.{names_of, states, titled}
+use Rattle.spec_hall.proofs.GoingLemmas.{home-places}
 use Rattle.spec_hall.proofs.SpotLemmas.{set-there}
-use Rattle.spec_hall.proofs.StatesLemmas.{job_of-states}
+use Rattle.spec_hall.proofs.StatesLemmas.{job_of-found, job_of-states}
 use Rattle.mal_hall.specs.HallView.{HallView}
 use Rattle.spec_cluster.specs.declared.fault.MoveFault.TheVariants as moving
 use Rattle.spec_cluster.specs.Calls.{IsMove, IsMoving, MayTry, went}
@@ -83,14 +89,6 @@ module _ (w : ℕ) (halls : List HallView) (moves : List Move) (k : Key) (from a
   may-try : MayTry c k to from
   may-try = record { there = found; low = some to at placed.0; high = most to at (length hs) placed.0 within; other = λ q. placed.2 (same-place to at from placed.0 q) }
 
-  pub may-hand : MayHand halls k from at
-  may-hand = record {
-    here = subst (λ (n : ℕ). from < n) (histories-length halls) here.within;
-    there = placed.1;
-    other = placed.2;
-    leaves = (titled (hall_at hs from) k, record { job = there-job k (hall_at hs from) here.there; home = ap (list_any (λ l. is_key k l.key)) (kept.cluster.calm from) });
-  }
-
   module _ (hall : HallView) (there : hall ≡ get_or halls at hall) where
     there-is : hall_at hs (to - 1) ≡ hall.events
     there-is = ap (hall_at hs) back ∙ history-at halls at hall placed.1 there
@@ -100,6 +98,19 @@ module _ (w : ℕ) (halls : List HallView) (moves : List Move) (k : Key) (from a
     refused admitting.TenantFull is = (from, record { may = may-try; fresh = ap (is_named k) there-is ∙ is.1; full = subst (λ (h : List Event). 64 ≤ jobs_of k.tenant (names_of h)) (sym there-is) is.2 }, refl)
     refused admitting.HallFull is = (from, record { may = may-try; none = ap (λ (h : List Event). jobs_of k.tenant (names_of h)) there-is ∙ is.2; full = subst (λ (h : List Event). 64 ≤ tenant_count (names_of h)) (sym there-is) is.3 }, refl)
     refused admitting.OutOfMemory is = absurd is
+
+    pub may-hand : MayCome hall.events k → MayHand halls k from at
+    may-hand may = record {
+      here = subst (λ (n : ℕ). from < n) (histories-length halls) here.within;
+      there = placed.1;
+      other = placed.2;
+      workers = w;
+      some_worker = kept.cluster.some_worker;
+      worker_bound = kept.cluster.worker_bound;
+      legal = kept.cluster.legal from;
+      leaves = (titled (hall_at hs from) k, record { job = there-job k (hall_at hs from) here.there; home = ap (list_any (λ l. is_key k l.key)) (kept.cluster.calm from) });
+      comes = subst (λ (h : List Event). MayCome h k) (sym (history-at halls at hall placed.1 there)) may;
+    }
 
     may-arrive : MayCome hall.events k → MayArrive (hall_at hs (to - 1)) k (brought_by k (hall_at hs from))
     may-arrive may = subst (λ (n : ℕ). MayArrive (hall_at hs n) k (brought_by k (hall_at hs from))) (sym back) (comes-arrives c k from at kept.cluster here.there placed.2 (may-come k (hall_at hs at) (subst (λ (h : List Event). MayCome h k) (sym (history-at halls at hall placed.1 there)) may)))
@@ -170,6 +181,67 @@ set-swap (x ∷ xs) zero zero a b other = absurd (other refl)
 set-swap (x ∷ xs) zero (suc n) a b other = refl
 set-swap (x ∷ xs) (suc m) zero a b other = refl
 set-swap {X} (x ∷ xs) (suc m) (suc n) a b other = ap (λ (ys : List X). x ∷ ys) (set-swap xs m n a b (λ q. other (ap suc q)))
+
+-- where no start is out no place is
+none-at : (ps : List NodeSlot) (i : ℕ) → starts_out ps ≡ 0 → is_some (get_or ps i vacant).out ≡ false
+none-at [] i none = refl
+none-at (p ∷ ps) i none = by_test (is_some p.out) refl (sym (sum_by-cons (λ (q : NodeSlot). cond (is_some q.out) 1 0) p ps) ∙ none) i (λ n e. none-at ps n e)
+  where
+    by_test : (b : Bool) → is_some p.out ≡ b → cond b 1 0 + starts_out ps ≡ 0 → (n : ℕ) → ((m : ℕ) → starts_out ps ≡ 0 → is_some (get_or ps m vacant).out ≡ false) → is_some (get_or (p ∷ ps) n vacant).out ≡ false
+    by_test true q sum n rest = absurd (omega (arith, sum))
+    by_test false q sum zero rest = q
+    by_test false q sum (suc n) rest = rest n (omega (arith, sum))
+
+none-found : (s : SoloMachine) (is : List ℕ) → starts_out s.places ≡ 0 → find (λ i. is_some (place_at s i).out) is ≡ None
+none-found s [] none = refl
+none-found s (i ∷ is) none = ap (λ (b : Bool). cond b (Some i) (find (λ n. is_some (place_at s n).out) is)) (none-at s.places i none) ∙ none-found s is none
+
+-- a job that may leave and has room is packed and admitted, unless memory is wanting
+module _ (halls : List HallView) (k : Key) (from to : ℕ) (may : MayHand halls k from to) (hall : HallView) where
+  module _ (here : hall ≡ get_or halls from hall) where
+    past-is : hall_at (histories halls) from ≡ hall.events
+    past-is = history-at halls from hall may.here here
+
+    leaves : MayLeave hall.events k may.leaves.0
+    leaves = subst (λ (h : List Event). MayLeave h k may.leaves.0) past-is may.leaves.1
+
+    pub packs-there : (w : ℕ) (now : List Event) → HasCalled w hall.events (Packs k) (Err packing.NoJob) now → ⊥
+    packs-there w now called = let bad : None ≡ Some may.leaves.0 = sym called.call.0 ∙ leaves.job in absurd (cc)
+
+    pub packs-home : (w index : ℕ) (now : List Event) → HasCalled w hall.events (Packs k) (Err (packing.Out index)) now → ⊥
+    packs-home w index now called =
+        let none : starts_out (solo (own k hall.events)).places ≡ 0 = home-places may.workers hall.events k may.some_worker may.worker_bound (subst (Legal may.workers) past-is may.legal) leaves.home in
+        let found : titled hall.events k ≡ called.call.0 = (job_of-found hall.events k called.call.0 called.call.1).machine in
+        let bad : None ≡ Some index = sym (none-found (solo (own k hall.events)) (counted 0 64) none) ∙ (ap (λ (t : KeyedJob). first_out t.state) found ∙ called.call.2) in
+        absurd (cc)
+
+  module _ (there : hall ≡ get_or halls to hall) where
+    comes : MayCome hall.events k
+    comes = subst (λ (h : List Event). MayCome h k) (history-at halls to hall may.there there) may.comes
+
+    admission-wanted : (fault : AdmitFault) → IsAdmission hall.events k (Err fault) → ⊥
+    admission-wanted admitting.Present is = let bad : None ≡ Some is.0 = sym comes.absent ∙ is.1 in absurd (cc)
+    admission-wanted admitting.TenantFull is = let low = comes.tenant_room is.1 in absurd (omega (arith, low, is.2))
+    admission-wanted admitting.HallFull is = let low = comes.hall_room is.2 in absurd (omega (arith, low, is.3))
+    admission-wanted admitting.OutOfMemory is = is
+
+    pub admits-wanting : (w : ℕ) (key : Key) (brought : List Own) (fault : AdmitFault) (now : List Event) → key ≡ k → HasCalled w hall.events (Admits key brought) (Err fault) now → fault ≡ admitting.OutOfMemory
+    admits-wanting w key brought fault now same called = by_fault fault (subst (λ (j : Key). IsAdmitting hall.events j brought (Err fault) called.events) same called.call)
+      where
+        by_fault : (f : AdmitFault) → IsAdmitting hall.events k brought (Err f) called.events → f ≡ admitting.OutOfMemory
+        by_fault admitting.Present is = absurd (admission-wanted admitting.Present is.0)
+        by_fault admitting.TenantFull is = absurd (admission-wanted admitting.TenantFull is.0)
+        by_fault admitting.HallFull is = absurd (admission-wanted admitting.HallFull is.0)
+        by_fault admitting.OutOfMemory is = refl
+
+-- what holds whatever was answered, and what holds of an answer that never comes
+pub on-err : {T E : Type 0} (P : Type 0) (r : Result T E) → P → OnErr r P
+on-err P (Ok x) p = tt
+on-err P (Err e) p = p
+
+pub never-ok : {T E : Type 0} (P : Type 0) (r : Result T E) → OnOk r ⊥ → OnOk r P
+never-ok P (Ok x) never = absurd never
+never-ok P (Err e) never = tt
 
 -- a job is admitted at one place, and then leaves at another
 module _ (halls : List HallView) (k : Key) (from to : ℕ) (may : MayHand halls k from to) (before after mine gone : HallView) (there : before ≡ get_or halls to before) (here : mine ≡ get_or (slice_set halls to after) from mine) where

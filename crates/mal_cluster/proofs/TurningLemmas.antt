@@ -1,6 +1,6 @@
 -- Halls that take their turns, and what has begun.
-use Rattle.std.proofs.Common.{◌≡◌, ◌≢◌, ℕ, suc, ◌+◌, ◌-◌, ◌%◌, ◌<◌, ◌≤◌, Bool, true, false, cond, List, [], ◌∷◌, ◌++◌, length, drop, map, flat_map, get_or, slice_set, Option, Some, None, Result, Ok, Err, inl, inr, refl, sym, ◌∙◌, ap, subst, arith, append-nil, append_assoc}
-use Rattle.std.specs.Prelude.{OnOk}
+use Rattle.std.proofs.Common.{◌≡◌, ◌≢◌, ◌⊎◌, ℕ, zero, suc, ◌+◌, ◌-◌, ◌%◌, ◌<◌, ◌≤◌, Bool, true, false, cond, List, [], ◌∷◌, ◌++◌, length, drop, take, map, flat_map, get_or, slice_set, Option, Some, None, Result, Ok, Err, inl, inr, refl, sym, ◌∙◌, ap, subst, arith, append-nil, append_assoc}
+use Rattle.std.specs.Prelude.{OnErr, OnOk}
 use Rattle.std.specs.List.{list_any}
 use Rattle.std.proofs.lemmas.Bool.{both_ways, cases_lt, or_from}
 use Rattle.std.proofs.lemmas.List.{drop_all, drop_more, get_or-map, get_or-set_same, length-map, length-set}
@@ -22,7 +22,7 @@ use Rattle.spec_cluster.specs.declared.fault.MoveFault.TheVariants as moving
 use Rattle.spec_cluster.specs.Calls.{IsMoving, went}
 use Rattle.spec_cluster.specs.Clusters.{Cluster, IsCluster, home, is_there, with_hall}
 use Rattle.spec_cluster.specs.Laws.{Grows, grown}
-use Rattle.spec_cluster.specs.Rounds.{AllTurn, AreRounds, HasBegun, IsRound, carried, goes, is_live, may_come, next_hall}
+use Rattle.spec_cluster.specs.Rounds.{AllTurn, AreRounds, GoRounds, HasBegun, IsBrokenOff, IsGoing, IsPart, IsRound, IsTurning, carried, goes, is_live, may_come, next_hall}
 use Rattle.spec_cluster.specs.Visits.{Move, hall_at, opens}
 use Rattle.spec_cluster.proofs.GoesLemmas.{moves-go_on}
 use Rattle.spec_cluster.proofs.GrowthLemmas.{growth-keeps}
@@ -289,13 +289,45 @@ turning-last every at c now are high = all-turn c.workers every c.halls now.hall
 -- the chosen jobs go on, one after the other
 pub record IsCarrying (chosen : List (Option Key)) (from : ℕ) (c now : Cluster) : Type 0 where
   pub going : carried (drop from chosen) from now ≡ carried chosen 0 c
+  pub gone : now ≡ carried (take from chosen) 0 c
   pub there : AreThere (drop from chosen) from now
   pub begun : HasBegun c now
   pub size : length now.halls ≡ length c.halls
 
+-- one more of the first jobs goes on
+carried-more : (chosen : List (Option Key)) (n base : ℕ) (c : Cluster) → n < length chosen → carried (take (suc n) chosen) base c ≡ goes (get_or chosen n None) (base + n) (carried (take n chosen) base c)
+carried-more [] n base c low = absurd (none n low)
+  where
+    none : (m : ℕ) → m < 0 → ⊥
+    none m q = omega arith
+carried-more (x ∷ xs) zero base c low = ap (λ (m : ℕ). goes x m c) (same base)
+  where
+    same : (m : ℕ) → m ≡ m + 0
+    same m = omega arith
+carried-more (x ∷ xs) (suc n) base c low = carried-more xs n (base + 1) (goes x base c) (omega (arith, low)) ∙ ap (λ (m : ℕ). goes (get_or xs n None) m (carried (take n xs) (base + 1) (goes x base c))) (moved base n)
+  where
+    moved : (a b : ℕ) → a + 1 + b ≡ a + suc b
+    moved a b = omega arith
+
+gone-next : (chosen : List (Option Key)) (from : ℕ) (c mid now : Cluster) (o : Option Key) → from < length chosen → get_or chosen from None ≡ o → mid ≡ carried (take from chosen) 0 c → now ≡ goes o from mid → now ≡ carried (take (from + 1) chosen) 0 c
+gone-next chosen from c mid now o low one gone step =
+    step
+    ∙ (ap (λ (x : Cluster). goes o from x) gone
+    ∙ (ap (λ (x : Option Key). goes x from (carried (take from chosen) 0 c)) (sym one)
+    ∙ (ap (λ (m : ℕ). goes (get_or chosen from None) m (carried (take from chosen) 0 c)) (from-none from)
+    ∙ (sym (carried-more chosen from 0 c low)
+    ∙ ap (λ (m : ℕ). carried (take m chosen) 0 c) (one-more from)))))
+  where
+    from-none : (m : ℕ) → m ≡ 0 + m
+    from-none m = omega arith
+
+    one-more : (m : ℕ) → suc m ≡ m + 1
+    one-more m = omega arith
+
 pub carrying-none : (chosen : List (Option Key)) (from : ℕ) (c now : Cluster) → from < length chosen → get_or chosen from None ≡ None → IsCarrying chosen from c now → IsCarrying chosen (from + 1) c now
 carrying-none chosen from c now low none is = record {
   going = sym (ap (λ (ks : List (Option Key)). carried ks from now) parts) ∙ is.going;
+  gone = gone-next chosen from c now now None low none is.gone refl;
   there = subst (λ (ks : List (Option Key)). AreThere ks from now) parts is.there;
   begun = is.begun;
   size = is.size;
@@ -323,6 +355,7 @@ module _ (chosen : List (Option Key)) (from : ℕ) (c mid : Cluster) (k : Key) (
   pub carrying-next : (now : Cluster) → IsCluster mid → now ≡ goes (Some k) from mid → HasBegun mid now → IsCarrying chosen (from + 1) c now
   carrying-next now kept step begun = record {
     going = ap (carried (drop (from + 1) chosen) (from + 1)) step ∙ (sym (ap (λ (ks : List (Option Key)). carried ks from mid) parts) ∙ is.going);
+    gone = gone-next chosen from c mid now (Some k) low one is.gone step;
     there = subst (AreThere (drop (from + 1) chosen) (from + 1)) (sym step) (goes-there mid k from kept are.0 (drop (from + 1) chosen) are.1);
     begun = begun-more c mid now is.begun begun;
     size = ap (λ (x : Cluster). length x.halls) step ∙ (went-size mid k from (may_come k (hall_at mid.halls (next_hall from mid))) ∙ is.size);
@@ -356,4 +389,52 @@ pub chosen-low : (chosen : List (Option (List ℕ × List ℕ))) (n : ℕ) → n
 chosen-low chosen n low = subst (λ (m : ℕ). n < m) (sym (length-map chosen chosen_key)) low
 
 pub carrying-first : (chosen : List (Option Key)) (c : Cluster) → chosen ≡ map first_live c.halls → IsCarrying chosen 0 c c
-carrying-first chosen c same = record { going = refl; there = subst (λ (ks : List (Option Key)). AreThere ks 0 c) (sym same) (all-there c); begun = begun-none c; size = refl }
+carrying-first chosen c same = record { going = refl; gone = refl; there = subst (λ (ks : List (Option Key)). AreThere ks 0 c) (sym same) (all-there c); begun = begun-none c; size = refl }
+
+-- what holds where a call was refused
+pub err-then : {T E : Type 0} (P Q : Type 0) (r : Result T E) → (P → Q) → OnErr r P → OnErr r Q
+err-then P Q (Ok x) f p = tt
+err-then P Q (Err e) f p = f p
+
+-- a move that wanted for memory changed nothing
+pub wanting-same : (c after : Cluster) (k : Key) (to : ℕ) (answer : Result (Unit {0}) MoveFault) (fault : MoveFault) → answer ≡ Err fault → fault ≡ moving.OutOfMemory → IsMoving c k to answer after → after ≡ c
+wanting-same c after k to answer fault is memory call = (subst (λ (r : Result (Unit {0}) MoveFault). IsMoving c k to r after) (is ∙ ap (λ (f : MoveFault). Err f) memory) call).2
+
+-- the turns of the halls broke off in that of the hall at a place
+pub turning-broken : (every at : ℕ) (c mid now : Cluster) → AreTurning every at c mid → at < length mid.halls → HasTurnsAt mid at now → IsTurning every at c now
+turning-broken every at c mid now are low has = record {
+  workers = ap (λ (x : Cluster). x.workers) has.kept ∙ are.workers;
+  size = ap (λ (hs : List (List Event)). length hs) halls ∙ (length-set mid.halls at (hall_at now.halls at) ∙ are.size);
+  moves = ap (λ (x : Cluster). x.moves) has.kept ∙ are.moves;
+  done = at-now (λ m h. m < at → TakesTurn c.workers every (hall_at c.halls m) h) (λ below. absurd (over at below)) (λ m other below. are.done m below);
+  begun = subst (λ (h : List Event). GrowsByTurns c.workers h (hall_at now.halls at)) (are.left at (omega arith)) (subst (λ (v : ℕ). GrowsByTurns v (hall_at mid.halls at) (hall_at now.halls at)) are.workers has.turns.grows);
+  left = at-now (λ m h. at < m → h ≡ hall_at c.halls m) (λ high. absurd (over at high)) (λ m other high. are.left m (above m at high));
+}
+  where
+    halls : now.halls ≡ slice_set mid.halls at (hall_at now.halls at)
+    halls = ap (λ (x : Cluster). x.halls) has.kept
+
+    at-now : (P : ℕ → List Event → Type 0) → P at (hall_at now.halls at) → ((m : ℕ) → m ≢ at → P m (hall_at mid.halls m)) → (m : ℕ) → P m (hall_at now.halls m)
+    at-now P here others = subst (λ (hs : List (List Event)). (m : ℕ) → P m (hall_at hs m)) (sym halls) (at-hall mid.halls at (hall_at now.halls at) low P here others)
+
+    over : (n : ℕ) → n < n → ⊥
+    over n high = omega arith
+
+    above : (m n : ℕ) → n < m → n ≤ m
+    above m n high = omega arith
+
+-- all halls took their turns, and of the chosen jobs some went on
+pub going-broken : (every count : ℕ) (c mid now : Cluster) → mid.workers ≡ c.workers → mid.moves ≡ c.moves → AllTurn c.workers every c.halls mid.halls → now ≡ carried (take count (map first_live mid.halls)) 0 mid → IsPart every c now
+going-broken every count c mid now workers same turned gone = inr (
+  count,
+  record {
+    mids = mid.halls;
+    turned = turned;
+    moved = gone ∙ ap (carried (take count (map first_live mid.halls)) 0) (ap (λ (w : ℕ). let x : Cluster = record { workers = w; halls = mid.halls; moves = mid.moves } in x) workers ∙ ap (λ (ms : List Move). let x : Cluster = record { workers = c.workers; halls = mid.halls; moves = ms } in x) same);
+  },
+)
+
+-- rounds that were gone
+pub rounds-gone : (every : ℕ) (c : Cluster) (rounds : List Cluster) (mid now : Cluster) → GoRounds every c rounds mid → is_live mid ≡ true → IsRound every mid now → GoRounds every c (rounds ++ now ∷ []) now
+rounds-gone every c [] mid now same live round = (ap is_live (sym same) ∙ live, subst (λ (x : Cluster). IsRound every x now) same round, refl)
+rounds-gone every c (next ∷ rest) mid now are live round = (are.0, are.1, rounds-gone every next rest mid now are.2 live round)

@@ -1,11 +1,12 @@
 -- A job that goes from one hall to another.
-use Rattle.std.specs.Prelude.{◌≡◌, ◌⊎◌, ◌≢◌, ℕ, ◌+◌, ◌<◌, All, List, [], ◌∷◌, ◌++◌, length, slice_set, Result, Ok, Err}
+use Rattle.std.specs.Prelude.{◌≡◌, ◌⊎◌, ◌≢◌, ℕ, ◌+◌, ◌<◌, ◌≤◌, All, List, [], ◌∷◌, ◌++◌, length, slice_set, Result, Ok, Err}
 use Rattle.mal_base.specs.declared.hall_fault.AdmitFault.{AdmitFault}
 use Rattle.mal_base.specs.declared.hall_fault.AdmitFault.TheVariants as admitting
 use Rattle.mal_hall.specs.HallView.{HallView}
 use Rattle.spec_job.specs.KeyedJob.{Key, KeyedJob}
+use Rattle.spec_hall.specs.Calls.{MayCome}
 use Rattle.spec_hall.specs.Events.{Event, Leave, Arrive}
-use Rattle.spec_hall.specs.Legal.{MayArrive, MayLeave}
+use Rattle.spec_hall.specs.Legal.{Legal, MayArrive, MayLeave}
 use Rattle.spec_hall.specs.Own.{brought_by}
 use Rattle.spec_cluster.specs.declared.fault.MoveFault.{MoveFault}
 use Rattle.spec_cluster.specs.declared.fault.MoveFault.TheVariants as moving
@@ -19,12 +20,17 @@ IsPlaced halls from to (Err moving.NoHall) = (to ≡ 0) ⊎ (halls < to)
 IsPlaced halls from to (Err moving.Same) = to ≡ from + 1
 IsPlaced halls from to (Err fault) = ⊥
 
--- a job of the hall at one place may be handed over to that at another
+-- a job of the hall at one place, whose history is legal, may leave it, and has room in that at another
 pub record MayHand (halls : List HallView) (k : Key) (from to : ℕ) : Type 0 where
   pub here : from < length halls
   pub there : to < length halls
   pub other : to ≢ from
+  pub workers : ℕ
+  pub some_worker : 1 ≤ workers
+  pub worker_bound : workers ≤ 64
+  pub legal : Legal workers (hall_at (histories halls) from)
   pub leaves : (t : KeyedJob) × MayLeave (hall_at (histories halls) from) k t
+  pub comes : MayCome (hall_at (histories halls) to) k
 
 -- the histories behind its leave there and its arrival here
 abbrev pub handed : Key → ℕ → ℕ → List (List Event) → List (List Event)

@@ -1,6 +1,7 @@
 //! A job that goes from one hall of a cluster to another.
 
 ghost use Rattle.std.specs.Prelude.{◌≡◌, length, OnErr, OnOk};
+ghost use Rattle.mal_base.specs.declared.hall_fault.AdmitFault.TheVariants as admitting;
 ghost use Rattle.mal_cluster.specs.{Kept.{histories}, Moving.{HasHanded, IsPlaced, MayHand, SameWorkers, refusal_of}};
 ghost use Rattle.spec_cluster.specs.Calls.{IsMoving};
 ghost use Rattle.spec_hall.specs.Dressed.{keyed};
@@ -8,7 +9,7 @@ ghost use Rattle.spec_hall.specs.Dressed.{keyed};
 use crate::cluster::Cluster;
 use crate::finding::home_of;
 use crate::moves::Move;
-use mal_base::{AdmitFault, Name};
+use mal_base::{AdmitFault, Name, PackFault};
 use mal_hall::Hall;
 use spec_cluster::MoveFault;
 use std::alloc::AllocError;
@@ -87,17 +88,32 @@ fn hand_over(
 {
     let parcel = match halls[from].pack_job(tenant, job) {
         Ok(parcel) => parcel,
-        Err(_) => return Err(AllocError),
+        Err(PackFault::NoJob) => unreachable!(),
+        Err(PackFault::Out { .. }) => unreachable!(),
+        Err(PackFault::OutOfMemory) => return Err(AllocError),
     };
     match halls[to].admit_job(parcel) {
         Ok(()) => {}
-        Err(refused) => {
-            drop(refused);
-            return Err(AllocError);
+        Err((parcel, fault)) => {
+            drop(parcel);
+            return wanting(fault);
         }
     }
     halls[from].leave_job(tenant, job);
     Ok(())
+}
+
+/// Memory was wanting where a hall did not admit a job that it has room for.
+fn wanting(fault: AdmitFault) -> Result<(), AllocError>
+    requires { fault ≡ admitting.OutOfMemory }
+    ensures { OnOk result ⊥ }
+{
+    match fault {
+        AdmitFault::Present => unreachable!(),
+        AdmitFault::TenantFull => unreachable!(),
+        AdmitFault::HallFull => unreachable!(),
+        AdmitFault::OutOfMemory => Err(AllocError),
+    }
 }
 
 /// How many events a hall has.

@@ -1,10 +1,10 @@
 //! A cluster that works in rounds.
 
-ghost use Rattle.std.specs.Prelude.{◌≡◌, ◌≢◌, ◌≤◌, ◌<◌, List, [], Some, true, length, map, IfOk, OnOk};
+ghost use Rattle.std.specs.Prelude.{◌≡◌, ◌≢◌, ◌≤◌, ◌<◌, ℕ, List, [], Some, true, length, map, take, IfOk, OnErr, OnOk};
 ghost use Rattle.mal_cluster.specs.{Kept.{histories}, Turning.{HasTurns, HasTurnsAt, any_live, chosen_key}};
 ghost use Rattle.spec_cluster.specs.Clusters as spec;
 ghost use Rattle.spec_cluster.specs.declared.fault.MoveFault.TheVariants as moving;
-ghost use Rattle.spec_cluster.specs.{Clusters.{IsCluster, is_there}, Rounds.{AllTurn, AreRounds, HasBegun, IsRound, carried, goes, is_live}, Visits.{hall_at}};
+ghost use Rattle.spec_cluster.specs.{Clusters.{IsCluster, is_there}, Rounds.{AllTurn, AreRounds, HasBegun, IsBrokenOff, IsPart, IsRound, IsTurning, carried, goes, is_live}, Visits.{hall_at}};
 ghost use Rattle.spec_hall.specs.{Dressed.{keyed}, States.{leases}, Turns.{TakesTurn, first_live}};
 
 use crate::cluster::Cluster;
@@ -17,12 +17,14 @@ use std::alloc::{AllocError, Global};
 impl Cluster {
     /// Drives the halls in rounds until no job is live: in each round each hall works for so many slices, 1 to 1,000,
     /// or until it waits, and then the first live job of each goes on to the next hall, where that has room for it.
-    /// After want of memory all events and moves stay, and the cluster may be driven again.
+    /// After want of memory all events and moves stay: those of whole rounds, and of a part of the next. The cluster may
+    /// be driven again.
     pub fn drive_moving(&mut self, every: u32, scratch: &mut Scratch) -> Result<(), AllocError>
         requires low { 1 ≤ every }
         requires high { every ≤ 1000 }
         ensures rounds { OnOk result ((rounds : List spec.Cluster) × AreRounds every self.old rounds self.new) }
         ensures begun { HasBegun self.old self.new }
+        ensures broken { OnErr result (IsBrokenOff every self.old self.new) }
     {
         while self.is_live() {
             self.go_round(every, scratch)?;
@@ -42,6 +44,7 @@ impl Cluster {
     fn go_round(&mut self, every: u32, scratch: &mut Scratch) -> Result<(), AllocError>
         ensures round { OnOk result (IsRound every self.old self.new) }
         ensures begun { HasBegun self.old self.new }
+        ensures part { OnErr result (IsPart every self.old self.new) }
     {
         self.turn_all(every, scratch)?;
         let chosen = first_lives(*self.halls.allocator(), &self.halls)?;
@@ -55,6 +58,7 @@ impl Cluster {
         ensures turned { OnOk result (AllTurn self.old.workers every self.old.halls self.new.halls) }
         ensures moves { self.new.moves ≡ self.old.moves }
         ensures begun { HasBegun self.old self.new }
+        ensures turning { OnErr result ((at : ℕ) × IsTurning every at self.old self.new) }
     {
         for at in 0..self.halls.len() {
             self.turn_at(at, every, scratch)?;
@@ -77,6 +81,7 @@ impl Cluster {
         requires { map chosen_key chosen.now ≡ map first_live self.old.halls }
         ensures carried { OnOk result (self.new ≡ carried (map first_live self.old.halls) 0 self.old) }
         ensures begun { HasBegun self.old self.new }
+        ensures gone { OnErr result ((count : ℕ) × (self.new ≡ carried (take count (map first_live self.old.halls)) 0 self.old)) }
     {
         for from in 0..chosen.len() {
             match &chosen[from] {
@@ -94,6 +99,7 @@ impl Cluster {
         ensures was { IsCluster self.old }
         ensures goes { OnOk result (self.new ≡ goes (Some (keyed tenant.now job.now)) from self.old) }
         ensures begun { HasBegun self.old self.new }
+        ensures kept { OnErr result (self.new ≡ self.old) }
     {
         let count = self.halls.len();
         let next = (from + 1) % count;
@@ -118,7 +124,8 @@ fn any_live(halls: &[Hall]) -> bool
 
 /// A job that is refused where it would go stays, unless memory was wanting.
 fn stays(fault: MoveFault) -> Result<(), AllocError>
-    ensures { OnOk result (fault ≢ moving.OutOfMemory) }
+    ensures stays { OnOk result (fault ≢ moving.OutOfMemory) }
+    ensures memory { OnErr result (fault ≡ moving.OutOfMemory) }
 {
     match fault {
         MoveFault::NoJob => Ok(()),

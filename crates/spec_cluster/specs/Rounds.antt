@@ -1,7 +1,8 @@
 -- Rounds of a cluster: each hall works for some slices, and then the first live job of each goes on to the next hall.
-use Rattle.std.specs.Prelude.{◌≡◌, ℕ, ◌+◌, ◌%◌, Bool, true, false, ◌&&◌, ◌||◌, ◌==◌, not, nat_lt, List, [], ◌∷◌, ◌++◌, length, map, sum_by, Option, Some, None, if◌then◌else◌}
+use Rattle.std.specs.Prelude.{◌≡◌, ◌⊎◌, ℕ, ◌+◌, ◌%◌, ◌<◌, Bool, true, false, ◌&&◌, ◌||◌, ◌==◌, not, nat_lt, List, [], ◌∷◌, ◌++◌, length, take, map, sum_by, Option, Some, None, if◌then◌else◌}
 use Rattle.std.specs.List.{list_any}
 use Rattle.spec_job.specs.KeyedJob.{Key}
+use Rattle.spec_hall.specs.Driven.{GrowsByTurns}
 use Rattle.spec_hall.specs.Events.{Event}
 use Rattle.spec_hall.specs.Legal.{jobs_of, tenant_count}
 use Rattle.spec_hall.specs.Measure.{left_among}
@@ -57,6 +58,39 @@ pub record HasBegun (before after : Cluster) : Type 0 where
   pub histories : (n : ℕ) → (later : List Event) × (hall_at after.halls n ≡ hall_at before.halls n ++ later)
   pub more : List Move
   pub moves : after.moves ≡ before.moves ++ more
+
+-- the halls before a place took their turns, that at the place has begun its own, those behind it are as before, and no
+-- job moved
+pub record IsTurning (every at : ℕ) (before now : Cluster) : Type 0 where
+  pub workers : now.workers ≡ before.workers
+  pub size : length now.halls ≡ length before.halls
+  pub moves : now.moves ≡ before.moves
+  pub done : (n : ℕ) → n < at → TakesTurn before.workers every (hall_at before.halls n) (hall_at now.halls n)
+  pub begun : GrowsByTurns before.workers (hall_at before.halls at) (hall_at now.halls at)
+  pub left : (n : ℕ) → at < n → hall_at now.halls n ≡ hall_at before.halls n
+
+-- all halls took their turns, and of the jobs that were chosen those of the first halls, so many, went on
+pub record IsGoing (every count : ℕ) (before now : Cluster) : Type 0 where
+  pub mids : List (List Event)
+  pub turned : AllTurn before.workers every before.halls mids
+  pub moved : now ≡ carried (take count (map first_live mids)) 0 (record before { halls = mids })
+
+-- a part of a round, of which the rest was not gone
+abbrev pub IsPart : ℕ → Cluster → Cluster → Type 0
+IsPart every before now = ((at : ℕ) × IsTurning every at before now) ⊎ ((count : ℕ) × IsGoing every count before now)
+
+-- rounds, one behind the other, each while a job is live: these are the clusters after each, of which this is the last
+abbrev pub GoRounds : ℕ → Cluster → List Cluster → Cluster → Type 0
+GoRounds every now [] last = last ≡ now
+GoRounds every now (next ∷ rest) last = (is_live now ≡ true) × IsRound every now next × GoRounds every next rest last
+
+-- memory was wanting in a round: the rounds before it are whole, and of it a part stays
+pub record IsBrokenOff (every : ℕ) (before after : Cluster) : Type 0 where
+  pub rounds : List Cluster
+  pub last : Cluster
+  pub whole : GoRounds every before rounds last
+  pub live : is_live last ≡ true
+  pub part : IsPart every last after
 
 -- how many slices the jobs of all halls may still run
 abbrev pub left_over : Cluster → ℕ

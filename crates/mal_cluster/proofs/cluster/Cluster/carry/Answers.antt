@@ -1,9 +1,10 @@
-use Rattle.std.proofs.Common.{◌+◌, List, Option, map, sym, ◌∙◌, ap, subst, arith}
+use Rattle.std.proofs.Common.{◌+◌, List, Option, map, take, sym, ◌∙◌, ap, subst, arith}
 use Rattle.std.proofs.lemmas.List.{length-map}
 use Rattle.spec_cluster.specs.Rounds.{carried}
 use Rattle.spec_hall.specs.Dressed.{keyed}
 use Rattle.spec_job.specs.KeyedJob.{Key}
 use Rattle.mal_cluster.specs.Turning.{chosen_key}
+use Rattle.mal_cluster.proofs.MovingLemmas.{on-err}
 use Rattle.mal_cluster.proofs.TurningLemmas.{IsCarrying, begun-more, carrying-first, carrying-last, carrying-next, carrying-none, carrying-there, chosen-at, chosen-count, chosen-low}
 use Rattle.mal_cluster.proofs.cluster.Cluster.carry.Goals.{in-None, in-Some+in_ok-go_on-in-Some}
 use Rattle.mal_cluster.proofs.cluster.Cluster.carry.Goals as goal
@@ -22,6 +23,9 @@ go_on-requires-clause-there c =
 
 pub returns-in_err-go_on-in-Some-clause-begun : goal.returns-in_err-go_on-in-Some-clause-begun
 returns-in_err-go_on-in-Some-clause-begun c = begun-more c.args.self.now c.loop-from.self c.go_on.new.self c.loop-from.invariant.begun c.go_on.ensures.begun
+
+pub returns-in_err-go_on-in-Some-clause-gone : goal.returns-in_err-go_on-in-Some-clause-gone
+returns-in_err-go_on-in-Some-clause-gone c = on-err _ c.from_residual.result (c.loop-from.from, c.in_err-go_on-in-Some.ensures.kept ∙ (c.loop-from.invariant.gone ∙ ap (λ (ks : List (Option Key)). carried (take c.loop-from.from ks) 0 c.args.self.now) c.requires))
 
 pub loop-from-preserved : goal.loop-from-preserved
 loop-from-preserved c =

@@ -30,7 +30,7 @@ hand_over-requires c =
     let k = keyed c.args.tenant.now c.args.job.now in
     let found = ap (λ (hs : List HallView). home k (histories hs)) (sym c.deref.ensures.value) ∙ sym c.in-Some.ensures in
     let placed = rw c.deref-2.ensures.value at c.in_ok-at.ensures in
-    may-hand c.self.inside.workers halls c.self.inside.moves.items k c.in-Some.from c.in_ok-at.at c.args.to c.self.invariant found placed
+    may-hand c.self.inside.workers halls c.self.inside.moves.items k c.in-Some.from c.in_ok-at.at c.args.to c.self.invariant found placed c.index.result.now c.index.ensures c.in-Ok.ensures
 
 pub invariant_of-self-in-Err-hand_over : goal.invariant_of-self-in-Err-hand_over
 invariant_of-self-in-Err-hand_over c =
