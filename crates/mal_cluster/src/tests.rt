@@ -21,17 +21,43 @@ fn lits(alloc: Global, numbers: &[i32]) -> Option<Vec<Lit>> {
     Some(lits)
 }
 
+/// Puts the clause of these literals into a list, or none where there are none. None where memory is wanting.
+fn push(alloc: Global, clauses: &mut ClauseList, numbers: &[i32]) -> Option<()> {
+    if numbers.is_empty() {
+        return Some(());
+    }
+    let lits = lits(alloc, numbers)?;
+    let made = Clause::of_lits(alloc, lits.as_slice()).ok();
+    drop(lits);
+    let clause = made?;
+    let pushed = clauses.push(&clause);
+    drop(clause);
+    pushed.ok()
+}
+
+/// A revision over two variables with these clauses and assumptions.
+fn assuming(alloc: Global, clauses: ClauseList, assumptions: &[i32]) -> Option<Revision> {
+    match lits(alloc, assumptions) {
+        Some(lits) => {
+            let revision = Revision::new(alloc, 2, clauses, lits.as_slice()).ok();
+            drop(lits);
+            revision
+        }
+        None => {
+            drop(clauses);
+            None
+        }
+    }
+}
+
 /// A revision over two variables with a clause of these literals, or with none, and these assumptions.
 fn revision(alloc: Global, clause: &[i32], assumptions: &[i32]) -> Option<Revision> {
     let mut clauses = ClauseList::new(alloc);
-    if !clause.is_empty() {
-        let lits = lits(alloc, clause)?;
-        clauses
-            .push(&Clause::of_lits(alloc, lits.as_slice()).ok()?)
-            .ok()?;
+    if push(alloc, &mut clauses, clause).is_some() {
+        return assuming(alloc, clauses, assumptions);
     }
-    let assumptions = lits(alloc, assumptions)?;
-    Revision::new(alloc, 2, clauses, assumptions.as_slice()).ok()
+    drop(clauses);
+    None
 }
 
 /// Opens a job of tenant a with four slices in the hall of a number.
@@ -83,7 +109,9 @@ fn is_text(alloc: Global, cluster: &Cluster, hall: u32, known: &[u8]) -> Option<
         return None;
     }
     let text = write(alloc, cluster.history(hall)).ok()?;
-    Some(text.as_slice() == known)
+    let is_known = text.as_slice() == known;
+    drop(text);
+    Some(is_known)
 }
 
 /// Whether a job that goes on after each slice leaves these histories in two halls.

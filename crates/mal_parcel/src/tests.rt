@@ -1,7 +1,7 @@
 //! Bytes of parcels that are known.
 
-ghost use Rattle.std.specs.Prelude.{◌≡◌, ◌≤◌, [], ◌∷◌, length, IfOk};
-ghost use Rattle.spec_job.specs.SoloMachine.{Opened, Revised, Closed, solo};
+ghost use Rattle.std.specs.Prelude.{◌≡◌, ◌≤◌, [], ◌∷◌, length, IfOk, OnOk};
+ghost use Rattle.spec_job.specs.{Counts.{starts_out}, Lawful.{IsLawful}, SoloMachine.{SoloMachine, Opened, Revised, Closed, solo}};
 
 use crate::{OwnEvent, Owned, Parcel, packed, put_answers, put_events, take_sized};
 use mal_base::{Answer, Ask, Clause, ClauseList, Lit, Name, Outcome};
@@ -15,72 +15,143 @@ fn name(text: &[u8]) -> Option<Name> {
     Name::of(text)
 }
 
-/// The own events of a job of which one start was lost.
-fn events(alloc: Global) -> Option<Vec<OwnEvent>> {
-    let mut events = Vec::new(alloc);
-    events.push(OwnEvent::Opened(Ask::of(1, 1, 4)?)).ok()?;
-    events.push(OwnEvent::Volume(1)).ok()?;
-    events.push(OwnEvent::Started(0)).ok()?;
-    events.push(OwnEvent::Finished(0, Outcome::Lost)).ok()?;
-    events.push(OwnEvent::Exchanged).ok()?;
-    events.push(OwnEvent::Closed).ok()?;
-    events.push(OwnEvent::Volume(0)).ok()?;
-    Some(events)
+/// Whether there is a section in front of these bytes which has this text, and nothing is behind it.
+fn is_section(bytes: &[u8], known: &[u8]) -> bool {
+    match take_sized(bytes) {
+        Some((text, rest)) => text == known && rest.is_empty(),
+        None => false,
+    }
 }
 
-/// Whether this is the text of those events, of the job p of the tenant a, with nothing behind it.
+/// Whether this is the text of the own events of the job p of the tenant a, of which one start was lost, with nothing
+/// behind it.
 fn is_text(alloc: Global, known: &[u8]) -> Option<bool> {
     let tenant = name(b"a")?;
     let job = name(b"p")?;
-    let events = events(alloc)?;
+    let events = [
+        OwnEvent::Opened(Ask::of(1, 1, 4)?),
+        OwnEvent::Volume(1),
+        OwnEvent::Started(0),
+        OwnEvent::Finished(0, Outcome::Lost),
+        OwnEvent::Exchanged,
+        OwnEvent::Closed,
+        OwnEvent::Volume(0),
+    ];
     let mut out = Vec::new(alloc);
-    put_events(alloc, &mut out, tenant, job, events.as_slice()).ok()?;
-    let (text, rest) = take_sized(out.as_slice())?;
-    Some(text == known && rest.is_empty())
+    let put = put_events(alloc, &mut out, tenant, job, &events);
+    drop(events);
+    let is_known = put.is_ok() && is_section(out.as_slice(), known);
+    drop(out);
+    Some(is_known)
 }
 
 /// Whether these are the bytes of two answers that are unknown.
-fn are_unknown(alloc: Global, known: &[u8]) -> Option<bool> {
+fn are_unknown(alloc: Global, known: &[u8]) -> bool {
+    let answers = [Answer::Spent(4), Answer::OutOfStarts];
     let mut out = Vec::new(alloc);
-    put_answers(&mut out, &[Answer::Spent(4), Answer::OutOfStarts]).ok()?;
-    Some(out.as_slice() == known)
+    let put = put_answers(&mut out, &answers);
+    drop(answers);
+    let is_known = put.is_ok() && out.as_slice() == known;
+    drop(out);
+    is_known
 }
 
-/// The parcel of the job p of the tenant a, which was just opened.
-fn opened(alloc: Global) -> Option<Parcel> {
-    let ask = Ask::of(1, 1, 4)?;
+/// The parcel of a job with these own events.
+fn parcel_of(alloc: Global, own: Owned, job: Job) -> Result<Parcel, AllocError>
+    requires lawful { IsLawful own }
+    requires home { starts_out job.titled.state.places ≡ 0 }
+    requires state { let s : SoloMachine = record job.titled.state { volume = 0 } in solo own ≡ s }
+{
+    let mut scratch = Scratch::new(alloc);
+    let parcel = packed(alloc, own, &job, &mut scratch);
+    drop(scratch);
+    drop(job);
+    parcel
+}
+
+/// Whether a parcel has these bytes.
+fn has_bytes(parcel: Parcel, known: &[u8]) -> bool {
+    let is_known = parcel.bytes() == known;
+    drop(parcel);
+    is_known
+}
+
+/// The own events of a job that was just opened.
+fn opened_own(alloc: Global, ask: Ask) -> Result<Owned, AllocError>
+    ensures { IfOk result (λ o. o ≡ Opened ask ∷ []) }
+{
+    let mut own = Owned::new(alloc);
+    match own.push(OwnEvent::Opened(ask)) {
+        Ok(()) => Ok(own),
+        Err(error) => {
+            drop(own);
+            Err(error)
+        }
+    }
+}
+
+/// The parcel of a job that was just opened.
+fn opened(alloc: Global, tenant: Name, name: Name, ask: Ask) -> Result<Parcel, AllocError> {
     // For the proof.
     let _ = ask.priority();
-    let job = Job::fresh(alloc, 1, name(b"a")?, name(b"p")?, ask).ok()?;
-    let mut own = Owned::new(alloc);
-    own.push(OwnEvent::Opened(ask)).ok()?;
-    let mut scratch = Scratch::new(alloc);
-    packed(alloc, own, &job, &mut scratch).ok()
+    let own = opened_own(alloc, ask)?;
+    match Job::fresh(alloc, 1, tenant, name, ask) {
+        Ok(job) => parcel_of(alloc, own, job),
+        Err(error) => {
+            drop(own);
+            Err(error)
+        }
+    }
 }
 
-/// Whether these are the bytes of the parcel of that job.
+/// Whether these are the bytes of the parcel of the job p of the tenant a, which was just opened.
 fn are_opened(alloc: Global, known: &[u8]) -> Option<bool> {
-    let parcel = opened(alloc)?;
-    Some(parcel.bytes() == known)
+    let parcel = opened(alloc, name(b"a")?, name(b"p")?, Ask::of(1, 1, 4)?).ok()?;
+    Some(has_bytes(parcel, known))
+}
+
+/// The list of this clause alone.
+fn list_of(alloc: Global, clause: Option<Clause>) -> Option<ClauseList> {
+    let mut clauses = ClauseList::new(alloc);
+    let pushed = clauses.push(&clause);
+    drop(clause);
+    match pushed {
+        Ok(()) => Some(clauses),
+        Err(_) => {
+            drop(clauses);
+            None
+        }
+    }
 }
 
 /// A revision of one variable, which has to be true.
 fn first_true(alloc: Global) -> Option<Revision> {
     let clause = Clause::of_rising(alloc, &[Lit::of_dimacs(1)?]).ok()?;
-    let mut clauses = ClauseList::new(alloc);
-    clauses.push(&clause).ok()?;
-    Revision::new(alloc, 1, clauses, &[]).ok()
+    Revision::new(alloc, 1, list_of(alloc, clause)?, &[]).ok()
 }
 
-/// The own events of a job that was opened, was given this revision and was closed.
+/// Puts the own events of a job that was opened, was given this revision and was closed into a list without events.
+fn push_closed(own: &mut Owned, ask: Ask, revision: &Revision) -> Result<(), AllocError>
+    requires { own.old ≡ [] }
+    ensures { OnOk result (own.new ≡ Opened ask ∷ Revised revision.now ∷ Closed ∷ []) }
+{
+    own.push(OwnEvent::Opened(ask))?;
+    own.push(OwnEvent::Revised(revision.copy()?))?;
+    own.push(OwnEvent::Closed)
+}
+
+/// Those own events.
 fn closed_own(alloc: Global, ask: Ask, revision: &Revision) -> Result<Owned, AllocError>
     ensures { IfOk result (λ o. o ≡ Opened ask ∷ Revised revision.now ∷ Closed ∷ []) }
 {
     let mut own = Owned::new(alloc);
-    own.push(OwnEvent::Opened(ask))?;
-    own.push(OwnEvent::Revised(revision.copy()?))?;
-    own.push(OwnEvent::Closed)?;
-    Ok(own)
+    match push_closed(&mut own, ask, revision) {
+        Ok(()) => Ok(own),
+        Err(error) => {
+            drop(own);
+            Err(error)
+        }
+    }
 }
 
 /// A job that was opened, was given this revision and was closed.
@@ -94,10 +165,25 @@ fn closed_job(
     requires { length revision.clauses ≤ 1 }
     ensures { IfOk result (λ j. j.titled.state ≡ solo (Opened ask ∷ Revised revision ∷ Closed ∷ [])) }
 {
-    let mut job = Job::fresh(alloc, 1, tenant, name, ask)?;
-    job.revise(revision)?;
-    job.close();
-    Ok(job)
+    match Job::fresh(alloc, 1, tenant, name, ask) {
+        Ok(fresh) => {
+            let mut job = fresh;
+            match job.revise(revision) {
+                Ok(()) => {
+                    job.close();
+                    Ok(job)
+                }
+                Err(error) => {
+                    drop(job);
+                    Err(error)
+                }
+            }
+        }
+        Err(error) => {
+            drop(revision);
+            Err(error)
+        }
+    }
 }
 
 /// The parcel of a job that was opened, was given this revision and was closed.
@@ -114,21 +200,33 @@ fn closed(
     let _ = ask.priority();
     let _ = revision.variables();
     let _ = revision.literals();
-    let own = closed_own(alloc, ask, &revision)?;
-    let job = closed_job(alloc, tenant, name, ask, revision)?;
-    let mut scratch = Scratch::new(alloc);
-    packed(alloc, own, &job, &mut scratch)
+    match closed_own(alloc, ask, &revision) {
+        Ok(own) => match closed_job(alloc, tenant, name, ask, revision) {
+            Ok(job) => parcel_of(alloc, own, job),
+            Err(error) => {
+                drop(own);
+                Err(error)
+            }
+        },
+        Err(error) => {
+            drop(revision);
+            Err(error)
+        }
+    }
 }
 
 /// Whether these are the bytes of the parcel of the job p of the tenant a, closed after that revision.
 fn are_closed(alloc: Global, known: &[u8]) -> Option<bool> {
+    let ask = Ask::of(1, 1, 4)?;
+    let tenant = name(b"a")?;
+    let job = name(b"p")?;
     let revision = first_true(alloc)?;
     if revision.clauses().len() > 1 {
+        drop(revision);
         return None;
     }
-    let ask = Ask::of(1, 1, 4)?;
-    let parcel = closed(alloc, name(b"a")?, name(b"p")?, ask, revision).ok()?;
-    Some(parcel.bytes() == known)
+    let parcel = closed(alloc, tenant, job, ask, revision).ok()?;
+    Some(has_bytes(parcel, known))
 }
 
 #[test]
@@ -139,7 +237,7 @@ fn own_events_are_lines(rt: HostRuntime) {
 
 #[test]
 fn unknown_answers_are_a_byte_each(rt: HostRuntime) {
-    assert!(rt; are_unknown(rt.alloc(), &[0, 0, 0, 0, 0, 0, 0, 2, 3, 4]) == Some(true));
+    assert!(rt; are_unknown(rt.alloc(), &[0, 0, 0, 0, 0, 0, 0, 2, 3, 4]));
 }
 
 #[test]

@@ -1,7 +1,8 @@
 //! Inquiries whose replies are known.
 
-ghost use Rattle.std.specs.Prelude.{◌≤◌, IsTrue, length};
+ghost use Rattle.std.specs.Prelude.{◌≤◌, IsTrue, [], length};
 ghost use Rattle.mal_base.specs.Formulas.{literals_of};
+ghost use Rattle.spec_inquiry.specs.Rounds.{IsInquiry};
 
 use super::hall::{Posted, ask, name, revision};
 use mal_base::{Ask, Name};
@@ -19,7 +20,36 @@ fn is_small(revision: &Revision) -> bool
     revision.clauses().len() <= 1000 && revision.literals() <= 1000
 }
 
-/// What an inquiry is told of two small revisions.
+/// What an inquiry without a round is told of two small revisions.
+fn ask_both(
+    inquiry: &mut Inquiry,
+    ask: Ask,
+    first: Revision,
+    second: Revision,
+    scratch: &mut Scratch,
+) -> Result<(Told, Told), AllocError>
+    requires begun { IsInquiry inquiry.old.key ask [] inquiry.old.events }
+    requires first_clauses { length first.clauses ≤ 1000 }
+    requires first_literals { literals_of first.clauses ≤ 1000 }
+    requires second_clauses { length second.clauses ≤ 1000 }
+    requires second_literals { literals_of second.clauses ≤ 1000 }
+{
+    match inquiry.ask(first, scratch) {
+        Ok(told) => match inquiry.ask(second, scratch) {
+            Ok(later) => Ok((told, later)),
+            Err(error) => {
+                drop(told);
+                Err(error)
+            }
+        },
+        Err(error) => {
+            drop(second);
+            Err(error)
+        }
+    }
+}
+
+/// What an inquiry of its own is told of two small revisions.
 fn asked_twice(
     alloc: Global,
     tenant: Name,
@@ -33,45 +63,76 @@ fn asked_twice(
     requires second_clauses { length second.clauses ≤ 1000 }
     requires second_literals { literals_of second.clauses ≤ 1000 }
 {
-    let mut inquiry = Inquiry::new(alloc, tenant, job, ask)?;
-    let mut scratch = Scratch::new(alloc);
-    let told = inquiry.ask(first, &mut scratch)?;
-    let later = inquiry.ask(second, &mut scratch)?;
-    Ok((told, later))
+    match Inquiry::new(alloc, tenant, job, ask) {
+        Ok(begun) => {
+            let mut inquiry = begun;
+            let mut scratch = Scratch::new(alloc);
+            let told = ask_both(&mut inquiry, ask, first, second, &mut scratch);
+            drop(scratch);
+            drop(inquiry);
+            told
+        }
+        Err(error) => {
+            drop(first);
+            drop(second);
+            Err(error)
+        }
+    }
 }
 
-/// What an inquiry is told that has so many slices for each of two revisions. None where one is not small, and where
-/// memory is wanting.
-fn told_of(alloc: Global, slices: i64, first: Revision, second: Revision) -> Option<(Told, Told)> {
-    if !is_small(&first) || !is_small(&second) {
-        return None;
+/// The same where both are small. None where one is not, and where memory is wanting.
+fn told_if_small(
+    alloc: Global,
+    tenant: Name,
+    job: Name,
+    ask: Ask,
+    first: Revision,
+    second: Revision,
+) -> Option<(Told, Told)> {
+    if is_small(&first) {
+        if is_small(&second) {
+            return asked_twice(alloc, tenant, job, ask, first, second).ok();
+        }
     }
-    let (tenant, job) = (name(b"a")?, name(b"p")?);
-    asked_twice(alloc, tenant, job, ask(1, slices, 1)?, first, second).ok()
+    drop(first);
+    drop(second);
+    None
+}
+
+/// What an inquiry is told that has so many slices for each of two revisions.
+fn told_of(alloc: Global, slices: i64, posted: (Posted, Posted)) -> Option<(Told, Told)> {
+    let (tenant, job, ask) = (name(b"a")?, name(b"p")?, ask(1, slices, 1)?);
+    let first = revision(alloc, posted.0)?;
+    match revision(alloc, posted.1) {
+        Some(second) => told_if_small(alloc, tenant, job, ask, first, second),
+        None => {
+            drop(first);
+            None
+        }
+    }
 }
 
 /// Whether the reply to a revision that tells this is this text.
-fn reads(alloc: Global, r: u32, told: &Told, known: &[u8]) -> bool {
-    let (Some(tenant), Some(job)) = (name(b"a"), name(b"p")) else {
-        return false;
-    };
-    match reply(alloc, &tenant, &job, r, 1, told) {
-        Ok(text) => text.as_slice() == known,
-        Err(_) => false,
-    }
+fn reads(alloc: Global, r: u32, told: &Told, known: &[u8]) -> Option<bool> {
+    let text = reply(alloc, &name(b"a")?, &name(b"p")?, r, 1, told).ok()?;
+    let is_known = text.as_slice() == known;
+    drop(text);
+    Some(is_known)
 }
 
 /// Whether an inquiry with so many slices for each of two revisions is told what these replies tell.
-fn replies(alloc: Global, slices: i64, posted: (Posted, Posted), known: (&[u8], &[u8])) -> bool {
-    let (Some(first), Some(second)) = (revision(alloc, posted.0), revision(alloc, posted.1)) else {
-        return false;
-    };
-    match told_of(alloc, slices, first, second) {
-        Some((told, later)) => {
-            reads(alloc, 1, &told, known.0) && reads(alloc, 2, &later, known.1)
-        }
-        None => false,
-    }
+fn replies(
+    alloc: Global,
+    slices: i64,
+    posted: (Posted, Posted),
+    known: (&[u8], &[u8]),
+) -> Option<bool> {
+    let (told, later) = told_of(alloc, slices, posted)?;
+    let is_first = reads(alloc, 1, &told, known.0);
+    let is_second = reads(alloc, 2, &later, known.1);
+    drop(told);
+    drop(later);
+    Some(is_first? && is_second?)
 }
 
 #[test]
@@ -80,7 +141,7 @@ fn what_was_told_goes_into_the_next_round(rt: HostRuntime) {
     let posted = (Posted::Clause(&[1, 2], &[]), Posted::Assuming(&[-1, -2]));
     let model = b"r a p 1\ns SATISFIABLE\nv -1 2 0\n";
     let proof = b"r a p 2\ns UNSATISFIABLE\nk -1 -2 0\nl 2 1 2 0 1 0\n";
-    assert!(rt; replies(rt.alloc(), 4, posted, (model, proof)));
+    assert!(rt; replies(rt.alloc(), 4, posted, (model, proof)) == Some(true));
 }
 
 #[test]
@@ -89,5 +150,5 @@ fn a_spent_budget_is_told(rt: HostRuntime) {
     let posted = (Posted::Free(600), Posted::Clause(&[1, 2], &[-1, -2]));
     let spent = b"r a p 1\ns UNKNOWN\nu spent 1\n";
     let proof = b"r a p 2\ns UNSATISFIABLE\nk -1 -2 0\nl 2 1 2 0 1 0\n";
-    assert!(rt; replies(rt.alloc(), 1, posted, (spent, proof)));
+    assert!(rt; replies(rt.alloc(), 1, posted, (spent, proof)) == Some(true));
 }

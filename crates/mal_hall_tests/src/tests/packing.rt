@@ -11,8 +11,8 @@ fn fill(alloc: Global, hall: &mut Hall) -> Option<()> {
     let tenant = name(b"a")?;
     let job = name(b"p")?;
     let ask = ask(1, 4, 1)?;
-    let revision = revision(alloc, Posted::Clause(&[1, 2], &[]))?;
     hall.open_job(tenant, job, ask).ok()?;
+    let revision = revision(alloc, Posted::Clause(&[1, 2], &[]))?;
     hall.revise_job(&tenant, &job, revision).ok()
 }
 
@@ -35,7 +35,9 @@ fn fault_while_out(alloc: Global, hall: &mut Hall) -> Option<Option<PackFault>> 
             hall.recall();
             out
         }
-        _ => None,
+        Ok(Pick::Idle) => None,
+        Ok(Pick::AllDone) => None,
+        Err(_) => None,
     }
 }
 
@@ -68,7 +70,9 @@ fn lose(hall: &mut Hall) -> Option<()> {
             hall.recall();
             Some(())
         }
-        _ => None,
+        Ok(Pick::Idle) => None,
+        Ok(Pick::AllDone) => None,
+        Err(_) => None,
     }
 }
 
@@ -102,7 +106,9 @@ fn is_reply(alloc: Global, hall: &Hall, known: &[u8]) -> Option<bool> {
     let tenant = name(b"a")?;
     let job = name(b"p")?;
     let text = hall.reply(&tenant, &job, 1).ok()??;
-    Some(text.as_slice() == known)
+    let is_known = text.as_slice() == known;
+    drop(text);
+    Some(is_known)
 }
 
 /// Whether a job of which a start was lost goes on in another hall, which admits it once.

@@ -3,10 +3,9 @@
 ghost use Rattle.std.specs.Prelude.{◌≡◌, ◌≤◌};
 ghost use Rattle.mal_turn.specs.Tokens.{IsOf};
 
-use super::hall::{FREE_REPLY, Told, ask, given, heard, name, pick, write};
+use super::hall::{FREE_REPLY, Told, ask, given, heard, name, pick, worked_off, write};
 use mal_base::{ClauseList, ReplyFault};
 use mal_hall::{Hall, Pick, PickFault, Post};
-use mal_learn::Scratch;
 use mal_revision::Revision;
 use mal_service::{Pass, Service, Size};
 use mal_suspend::Done;
@@ -39,7 +38,7 @@ impl<'a, R: Wait, S: Size> Caller<'a, R, S> {
 }
 
 /// The opening of the job p of a tenant.
-fn opening(alloc: Global, tenant: &[u8]) -> Option<Post> {
+fn opening(tenant: &[u8]) -> Option<Post> {
     Some(Post::Open {
         tenant: name(tenant)?,
         job: name(b"p")?,
@@ -48,10 +47,14 @@ fn opening(alloc: Global, tenant: &[u8]) -> Option<Post> {
 }
 
 /// The posting of a revision of the job p of a tenant.
-fn revising(alloc: Global, tenant: &[u8], revision: Option<Revision>) -> Option<Post> {
+fn revising(tenant: &[u8], revision: Option<Revision>) -> Option<Post> {
+    let (Some(tenant), Some(job)) = (name(tenant), name(b"p")) else {
+        drop(revision);
+        return None;
+    };
     Some(Post::Revise {
-        tenant: name(tenant)?,
-        job: name(b"p")?,
+        tenant,
+        job,
         revision: revision?,
     })
 }
@@ -64,8 +67,10 @@ fn free(alloc: Global) -> Option<Revision> {
 /// What came of the lease of a pick that is worked off, if there is one.
 fn worked(alloc: Global, picked: Result<Pick, PickFault>) -> Option<Done> {
     match picked {
-        Ok(Pick::Leased(lease)) => Some(lease.work(&mut Scratch::new(alloc))),
-        _ => None,
+        Ok(Pick::Leased(lease)) => Some(worked_off(alloc, lease)),
+        Ok(Pick::Idle) => None,
+        Ok(Pick::AllDone) => None,
+        Err(_) => None,
     }
 }
 
@@ -114,8 +119,8 @@ impl<R: Wait> Caller<'_, R, One> {
         requires { IsOf self.now.service.now.turn pass }
         ensures { IsOf self.now.service.now.turn result.0 }
     {
-        let (pass, is_open) = self.post(pass, opening(self.alloc, b"a"));
-        let revision = revising(self.alloc, b"a", free(self.alloc));
+        let (pass, is_open) = self.post(pass, opening(b"a"));
+        let revision = revising(b"a", free(self.alloc));
         let (pass, is_posted) = self.post(pass, revision);
         if is_open && is_posted {
             (pass, Told::Done)
@@ -183,7 +188,11 @@ fn closed<S: Size>(alloc: Global, service: Service<S>, pass: Pass<S>, known: &[u
     requires { IsOf service.turn pass }
 {
     match service.close(pass) {
-        Ok(hall) => write(alloc, &hall, known),
+        Ok(hall) => {
+            let told = write(alloc, &hall, known);
+            drop(hall);
+            told
+        }
         Err(_) => Told::Other,
     }
 }
@@ -200,8 +209,7 @@ fn a_pass_hears_what_another_worked(rt: HostRuntime) -> Result<(), AllocError> {
         Told::Done,
         Told::NotHeard(ReplyFault::NoJob),
     ];
-    assert_eq!(rt; told, known);
-    assert_eq!(rt; end, Told::Done);
+    assert!(rt; told == known && end == Told::Done);
     Ok(())
 }
 
@@ -215,13 +223,13 @@ fn post_to(hall: &mut Hall, post: Option<Post>) -> bool {
 
 /// What comes of the second lease of a hall whose first was lost.
 fn second_of(alloc: Global, hall: &mut Hall) -> Option<Done> {
-    if !post_to(hall, opening(alloc, b"a")) || !post_to(hall, revising(alloc, b"a", free(alloc))) {
+    if !post_to(hall, opening(b"a")) || !post_to(hall, revising(b"a", free(alloc))) {
         return None;
     }
     drop(pick(hall, 1));
     hall.recall();
     match pick(hall, 1) {
-        Ok(lease) => Some(lease.work(&mut Scratch::new(alloc))),
+        Ok(lease) => Some(worked_off(alloc, lease)),
         Err(_) => None,
     }
 }
@@ -231,7 +239,9 @@ fn second(alloc: Global) -> Option<Done> {
     match Hall::new(alloc, 1) {
         Ok(hall) => {
             let mut hall = hall;
-            second_of(alloc, &mut hall)
+            let done = second_of(alloc, &mut hall);
+            drop(hall);
+            done
         }
         Err(_) => None,
     }
@@ -240,8 +250,10 @@ fn second(alloc: Global) -> Option<Done> {
 #[test]
 fn the_second_lease_of_another_hall_is_strange(rt: HostRuntime) -> Result<(), AllocError> {
     let (service, pass) = Service::<One>::new(rt.alloc(), 1)?;
-    let (_pass, told) = Caller::new(&rt, rt.alloc(), &service).give_strange(pass);
+    let (pass, told) = Caller::new(&rt, rt.alloc(), &service).give_strange(pass);
+    drop(pass);
+    drop(service);
     let known = [Told::Done, Told::Strange(Some(1)), Told::Done, Told::Done];
-    assert_eq!(rt; told, known);
+    assert!(rt; told == known);
     Ok(())
 }

@@ -64,18 +64,22 @@ impl<E: Listed> Going<E> {
     /// The bytes of the node's image.
     pub fn bytes(&self) -> Result<Vec<u8>, AllocError> {
         let image = self.node.image()?;
-        let bytes = freeze(self.alloc, &image)?;
-        Ok(bytes)
+        let bytes = freeze(self.alloc, &image);
+        drop(image);
+        bytes
     }
 
     /// The node that is thawed from this one's bytes.
     pub fn thawed(&self) -> Result<Going<E>, AllocError> {
         let image = self.node.image()?;
-        let bytes = freeze(self.alloc, &image)?;
-        let node = woken(self.alloc, bytes.as_slice())?;
+        let frozen = freeze(self.alloc, &image);
+        drop(image);
+        let bytes = frozen?;
+        let woken = woken(self.alloc, bytes.as_slice());
+        drop(bytes);
         Ok(Going {
             alloc: self.alloc,
-            node,
+            node: woken?,
             slices: self.slices,
         })
     }
@@ -92,7 +96,9 @@ fn woken<E: Listed>(alloc: Global, bytes: &[u8]) -> Result<Node<E>, AllocError>
     ensures { IfOk result (λ n. image_in bytes.now ≡ Ok n.state) }
 {
     let image = thaw_known(alloc, bytes)?;
-    Node::of_image(alloc, &image)
+    let node = Node::of_image(alloc, &image);
+    drop(image);
+    node
 }
 
 /// The node of index 0 that has loaded a revision.

@@ -3,17 +3,15 @@
 ghost use Rattle.std.specs.Prelude.{◌≡◌, ◌≤◌, IfOk};
 ghost use Rattle.mal_pool.specs.Posts.{HasRun};
 
-use super::gates::{Together, check_replies};
-use super::scripts::{FOUR_REPLIES, FOUR_TENANTS, single_jobs};
+use super::gates::{Together, has_replied};
+use super::scripts::{Answered, FOUR_JOBS, FOUR_TENANTS, TWO_JOBS};
 use mal_cli::run_served;
 use mal_hall::{Hall, Post};
 use mal_pool::{Gate, HallBox, OwnCalls, PlainGate, Shared, Size, run_all, run_with};
 use mal_script::{Script, read};
 use std::alloc::{AllocError, Global};
 use std::marker::Brand;
-use std::process::Abort;
 use std::sync::Wait;
-use std::test::Fail;
 use std::thread::Threads;
 
 /// How threads share a hall.
@@ -68,73 +66,108 @@ impl Team {
     }
 }
 
-/// Runs as many jobs of demand 1 as there are workers. Their first slices wait for one another, so no worker has the
-/// lock or the turn while it works.
-fn start_together<R: Threads + Wait + Sync + Abort>(
+/// Whether as many jobs of demand 1 as there are workers start together: their first slices wait for one another, so no
+/// worker has the lock or the turn while it works.
+fn holds_together<R: Threads + Wait + Sync>(
     rt: &R,
     alloc: Global,
     team: Team,
-) -> Result<(), Fail>
+    script: &Script,
+) -> Option<bool>
     requires some { 2 ≤ team.workers }
     requires bound { team.workers ≤ 64 }
 {
-    let script = read(alloc, single_jobs(alloc, team.workers)?.as_slice())?;
     let gate = Together::of(u64::from(team.workers));
-    let hall = team.run(rt, alloc, &script, &gate)?;
-    gate.check(rt, hall.history())
+    let hall = team.run(rt, alloc, script, &gate).ok()?;
+    let has_held = gate.has_held(hall.history());
+    drop(hall);
+    Some(has_held)
+}
+
+/// The same of the script of a text.
+fn start_together<R: Threads + Wait + Sync>(
+    rt: &R,
+    alloc: Global,
+    team: Team,
+    text: &[u8],
+) -> Option<bool>
+    requires some { 2 ≤ team.workers }
+    requires bound { team.workers ≤ 64 }
+{
+    let script = read(alloc, text).ok()?;
+    let has_held = holds_together(rt, alloc, team, &script);
+    drop(script);
+    has_held
 }
 
 #[test]
-fn workers_start_before_one_finishes(rt: HostRuntime) -> Result<(), Fail> {
-    start_together(&rt, rt.alloc(), Team::locking(2))?;
-    start_together(&rt, rt.alloc(), Team::locking(4))?;
-    start_together(&rt, rt.alloc(), Team::serving(4))
+fn workers_start_before_one_finishes(rt: HostRuntime) {
+    let alloc = rt.alloc();
+    assert!(rt; start_together(&rt, alloc, Team::locking(2), TWO_JOBS) == Some(true));
+    assert!(rt; start_together(&rt, alloc, Team::locking(4), FOUR_JOBS) == Some(true));
+    assert!(rt; start_together(&rt, alloc, Team::serving(4), FOUR_JOBS) == Some(true));
 }
 
-/// A script with the replies to it.
-#[derive(Clone, Copy)]
-struct Answered {
-    script: &'static [u8],
-    replies: &'static [u8],
+/// Whether a team that runs a script replies like this, and loses no lease.
+fn team_replies<R: Threads + Wait + Sync>(
+    rt: &R,
+    alloc: Global,
+    team: Team,
+    script: &Script,
+    known: &[u8],
+) -> Option<bool>
+    requires some { 2 ≤ team.workers }
+    requires bound { team.workers ≤ 64 }
+{
+    let hall = team.run(rt, alloc, script, &PlainGate).ok()?;
+    let is_known = has_replied(alloc, &hall, script, known);
+    drop(hall);
+    Some(is_known)
 }
 
-/// Runs a script, and compares the replies. No lease is lost.
-fn reply_alike<R: Threads + Wait + Sync + Abort>(
+/// Whether a team replies to a script as it is known.
+fn reply_alike<R: Threads + Wait + Sync>(
     rt: &R,
     alloc: Global,
     team: Team,
     known: Answered,
-) -> Result<(), Fail>
+) -> Option<bool>
     requires some { 2 ≤ team.workers }
     requires bound { team.workers ≤ 64 }
 {
-    let script = read(alloc, known.script)?;
-    let hall = team.run(rt, alloc, &script, &PlainGate)?;
-    check_replies(rt, alloc, &hall, &script, known.replies)
+    let script = read(alloc, known.script).ok()?;
+    let is_known = team_replies(rt, alloc, team, &script, known.replies);
+    drop(script);
+    is_known
 }
 
-/// Runs a script with one worker, who shares the hall with nobody, and compares the replies.
-fn reply_alone<R: Threads + Wait + Sync + Abort>(
+/// Whether one worker, who shares the hall with nobody, replies to a script like this, and loses no lease.
+fn one_replies<R: Threads + Wait + Sync>(
     rt: &R,
     alloc: Global,
-    known: Answered,
-) -> Result<(), Fail> {
-    let script = read(alloc, known.script)?;
-    let hall = run_all(rt, alloc, &script, 1, &PlainGate)?;
-    check_replies(rt, alloc, &hall, &script, known.replies)
+    script: &Script,
+    known: &[u8],
+) -> Option<bool> {
+    let hall = run_all(rt, alloc, script, 1, &PlainGate).ok()?;
+    let is_known = has_replied(alloc, &hall, script, known);
+    drop(hall);
+    Some(is_known)
 }
 
-/// The script of four tenants.
-const FOUR: Answered = Answered {
-    script: FOUR_TENANTS,
-    replies: FOUR_REPLIES,
-};
+/// Whether one worker replies to a script as it is known.
+fn reply_alone<R: Threads + Wait + Sync>(rt: &R, alloc: Global, known: Answered) -> Option<bool> {
+    let script = read(alloc, known.script).ok()?;
+    let is_known = one_replies(rt, alloc, &script, known.replies);
+    drop(script);
+    is_known
+}
 
 #[test]
-fn any_number_of_workers_replies_alike(rt: HostRuntime) -> Result<(), Fail> {
-    reply_alone(&rt, rt.alloc(), FOUR)?;
-    reply_alike(&rt, rt.alloc(), Team::locking(4), FOUR)?;
-    reply_alike(&rt, rt.alloc(), Team::locking(64), FOUR)
+fn any_number_of_workers_replies_alike(rt: HostRuntime) {
+    let alloc = rt.alloc();
+    assert!(rt; reply_alone(&rt, alloc, FOUR_TENANTS) == Some(true));
+    assert!(rt; reply_alike(&rt, alloc, Team::locking(4), FOUR_TENANTS) == Some(true));
+    assert!(rt; reply_alike(&rt, alloc, Team::locking(64), FOUR_TENANTS) == Some(true));
 }
 
 /// Three revisions of a job of one tenant, beside jobs of two others.
@@ -144,11 +177,12 @@ const THREE: Answered = Answered {
 };
 
 #[test]
-fn any_number_of_workers_of_a_service_replies_alike(rt: HostRuntime) -> Result<(), Fail> {
-    reply_alone(&rt, rt.alloc(), THREE)?;
-    reply_alike(&rt, rt.alloc(), Team::serving(2), THREE)?;
-    reply_alike(&rt, rt.alloc(), Team::serving(4), THREE)?;
-    reply_alike(&rt, rt.alloc(), Team::serving(64), THREE)
+fn any_number_of_workers_of_a_service_replies_alike(rt: HostRuntime) {
+    let alloc = rt.alloc();
+    assert!(rt; reply_alone(&rt, alloc, THREE) == Some(true));
+    assert!(rt; reply_alike(&rt, alloc, Team::serving(2), THREE) == Some(true));
+    assert!(rt; reply_alike(&rt, alloc, Team::serving(4), THREE) == Some(true));
+    assert!(rt; reply_alike(&rt, alloc, Team::serving(64), THREE) == Some(true));
 }
 
 /// Runs a script over a hall under a lock that has its first job already, and so refuses it.
@@ -186,15 +220,28 @@ fn run_refused<S: Size + Send + Sync, R: Threads + Wait + Sync>(
     )
 }
 
-/// A hall that refuses a job is given up, and a new one replies.
-fn reply_refused<R: Threads + Wait + Sync + Abort>(rt: &R, alloc: Global) -> Result<(), Fail> {
+/// Whether a hall that refuses a job is given up, and a new one replies to the script of the four tenants.
+fn refused_replies<R: Threads + Wait + Sync>(
+    rt: &R,
+    alloc: Global,
+    script: &Script,
+) -> Option<bool> {
     let workers = 4;
-    let script = read(alloc, FOUR_TENANTS)?;
-    let hall = run_refused::<Brand, R>(rt, alloc, &script, workers)?;
-    check_replies(rt, alloc, &hall, &script, FOUR_REPLIES)
+    let hall = run_refused::<Brand, R>(rt, alloc, script, workers).ok()?;
+    let is_known = has_replied(alloc, &hall, script, FOUR_TENANTS.replies);
+    drop(hall);
+    Some(is_known)
+}
+
+/// The same of the script that is read.
+fn reply_refused<R: Threads + Wait + Sync>(rt: &R, alloc: Global) -> Option<bool> {
+    let script = read(alloc, FOUR_TENANTS.script).ok()?;
+    let is_known = refused_replies(rt, alloc, &script);
+    drop(script);
+    is_known
 }
 
 #[test]
-fn a_refused_job_is_no_want_of_memory(rt: HostRuntime) -> Result<(), Fail> {
-    reply_refused(&rt, rt.alloc())
+fn a_refused_job_is_no_want_of_memory(rt: HostRuntime) {
+    assert!(rt; reply_refused(&rt, rt.alloc()) == Some(true));
 }

@@ -1,31 +1,52 @@
 //! The program over devices that fail, that are full, and that give what no command takes: what is left of the source,
 //! and what was written.
 
+use super::programs::words;
 use mal_answer::usage_line;
 use mal_cli::top;
-use mal_io::{MemSink, MemSource, Source, read_all};
+use mal_io::{MemSink, MemSource, read_all};
 use mal_pool::PlainGate;
-use std::alloc::{AllocError, Global};
-use std::process::Abort;
+use std::alloc::Global;
 use std::sync::Wait;
-use std::test::Fail;
 use std::thread::Threads;
 
-/// What a call of the program answers: its status, its output and its log.
-#[derive(Drop)]
-struct Told {
-    status: u8,
-    out: Vec<u8>,
-    log: Vec<u8>,
+/// What a text is to be: just these bytes, or these in front.
+#[derive(Clone, Copy)]
+enum Known<'a> {
+    Is(&'a [u8]),
+    Begins(&'a [u8]),
 }
 
-impl Told {
-    /// The status, the output and the log are these.
-    fn check<R: Abort>(&self, rt: &R, status: u8, out: &[u8], log: &[u8]) -> Result<(), Fail> {
-        assert_eq!(rt; self.status, status);
-        assert_eq!(rt; self.out.as_slice(), out);
-        assert_eq!(rt; self.log.as_slice(), log);
-        Ok(())
+impl Known<'_> {
+    fn fits(self, text: &[u8]) -> bool {
+        match self {
+            Known::Is(known) => text == known,
+            Known::Begins(known) => text.starts_with(known),
+        }
+    }
+}
+
+/// What a call of the program is to come to: its status, its output and its log.
+#[derive(Clone, Copy)]
+struct End<'a> {
+    status: u8,
+    out: Known<'a>,
+    log: Known<'a>,
+}
+
+impl<'a> End<'a> {
+    /// This status, with just these texts.
+    fn with(status: u8, out: &'a [u8], log: &'a [u8]) -> End<'a> {
+        End {
+            status,
+            out: Known::Is(out),
+            log: Known::Is(log),
+        }
+    }
+
+    /// It comes to this.
+    fn is(&self, status: u8, out: &MemSink, log: &MemSink) -> bool {
+        status == self.status && self.out.fits(out.bytes()) && self.log.fits(log.bytes())
     }
 }
 
@@ -55,6 +76,11 @@ impl<'a> Sinking<'a> {
     fn full(room: usize) -> Sinking<'a> {
         Sinking { room, failing: &[] }
     }
+
+    /// A sink that fails so.
+    fn sink(self, alloc: Global) -> Option<MemSink<'a>> {
+        MemSink::new(alloc, self.room, 1, self.failing).ok()
+    }
 }
 
 /// How the output and the log fail.
@@ -77,73 +103,83 @@ const LOG: &[u8] = b"h mal 1 1\no a p 1 1 4\nr a p 1\nc a p\nb a p 1\ns a p 0 1\
 
 const REPLY: &[u8] = b"r a p 1\ns SATISFIABLE\nv 0\n";
 
-/// These words as the program gets them.
-fn words(alloc: Global, parts: &[&str]) -> Result<Vec<String>, AllocError> {
-    let mut words = Vec::new(alloc);
-    for part in parts {
-        words.push(String::from_str(alloc, part)?)?;
-    }
-    Ok(words)
-}
-
-/// A copy of these bytes.
-fn copied(alloc: Global, bytes: &[u8]) -> Result<Vec<u8>, AllocError> {
-    let mut copy = Vec::new(alloc);
-    copy.extend_from_slice(bytes)?;
-    Ok(copy)
-}
-
-/// What the program answers to words and a source.
-fn answer_to<R: Threads + Wait + Sync, S: Source>(
+/// Whether the program comes to this end, by words and a source. None where memory is wanting for the devices.
+fn comes_to<R: Threads + Wait + Sync>(
     rt: &R,
     alloc: Global,
     parts: &[&str],
-    source: &mut S,
+    source: &mut MemSource,
     sinks: &Sinks,
-) -> Result<Told, AllocError> {
+    end: &End,
+) -> Option<bool> {
     let words = words(alloc, parts)?;
-    let mut out = MemSink::new(alloc, sinks.out.room, 1, sinks.out.failing)?;
-    let mut log = MemSink::new(alloc, sinks.log.room, 1, sinks.log.failing)?;
-    let status = top(
-        rt,
-        alloc,
-        words.as_slice(),
-        source,
-        &mut out,
-        &mut log,
-        &PlainGate,
-    );
-    Ok(Told {
-        status,
-        out: copied(alloc, out.bytes())?,
-        log: copied(alloc, log.bytes())?,
-    })
+    let told = comes_by(rt, alloc, words.as_slice(), source, sinks, end);
+    drop(words);
+    told
 }
 
-#[test]
-fn refused_words_leave_the_source_unread(rt: HostRuntime) -> Result<(), Fail> {
-    let alloc = rt.alloc();
+/// The same, by words as the program gets them.
+fn comes_by<R: Threads + Wait + Sync>(
+    rt: &R,
+    alloc: Global,
+    words: &[String],
+    source: &mut MemSource,
+    sinks: &Sinks,
+    end: &End,
+) -> Option<bool> {
+    let mut out = sinks.out.sink(alloc)?;
+    let told = comes_into(rt, alloc, words, source, &mut out, sinks.log, end);
+    drop(out);
+    told
+}
+
+/// The same, with this output and a log that fails so.
+fn comes_into<R: Threads + Wait + Sync>(
+    rt: &R,
+    alloc: Global,
+    words: &[String],
+    source: &mut MemSource,
+    out: &mut MemSink,
+    log: Sinking,
+    end: &End,
+) -> Option<bool> {
+    let mut log = log.sink(alloc)?;
+    let status = top(rt, alloc, words, source, out, &mut log, &PlainGate);
+    let is_end = end.is(status, out, &log);
+    drop(log);
+    Some(is_end)
+}
+
+/// Whether the program comes to this end by these words, and leaves the script in its source.
+fn leaves_source<R: Threads + Wait + Sync>(
+    rt: &R,
+    alloc: Global,
+    parts: &[&str],
+    end: &End,
+) -> Option<bool> {
     let mut source = MemSource::new(SCRIPT, 4, &[]);
-    let told = answer_to(&rt, alloc, &["mal", "fly"], &mut source, &NONE)?;
-    told.check(&rt, 2, b"", usage_line())?;
-    let left = read_all(alloc, &mut source, 100).expect(&rt, "left");
-    assert_eq!(rt; left.as_slice(), SCRIPT);
-    Ok(())
+    let is_end = comes_to(rt, alloc, parts, &mut source, &NONE, end)?;
+    let left = read_all(alloc, &mut source, 100).ok()?;
+    let is_left = left.as_slice() == SCRIPT;
+    drop(left);
+    Some(is_end && is_left)
 }
 
 #[test]
-fn a_script_that_is_made_leaves_the_source_unread(rt: HostRuntime) -> Result<(), Fail> {
-    let alloc = rt.alloc();
+fn refused_words_leave_the_source_unread(rt: HostRuntime) {
+    let end = End::with(2, b"", usage_line());
+    assert!(rt; leaves_source(&rt, rt.alloc(), &["mal", "fly"], &end) == Some(true));
+}
+
+#[test]
+fn a_script_that_is_made_leaves_the_source_unread(rt: HostRuntime) {
     let parts = ["mal", "gen", "--seed", "1", "--jobs", "1"];
-    let mut source = MemSource::new(SCRIPT, 4, &[]);
-    let told = answer_to(&rt, alloc, &parts, &mut source, &NONE)?;
-    assert_eq!(rt; told.status, 0);
-    let begins = b"t t1\nj j1 7 1 64\np cnf 50 213\n-9 13 -24 0\n".as_slice();
-    assert_eq!(rt; told.out.as_slice().starts_with(begins), true);
-    assert_eq!(rt; told.log.as_slice(), b"".as_slice());
-    let left = read_all(alloc, &mut source, 100).expect(&rt, "left");
-    assert_eq!(rt; left.as_slice(), SCRIPT);
-    Ok(())
+    let end = End {
+        status: 0,
+        out: Known::Begins(b"t t1\nj j1 7 1 64\np cnf 50 213\n-9 13 -24 0\n"),
+        log: Known::Is(b""),
+    };
+    assert!(rt; leaves_source(&rt, rt.alloc(), &parts, &end) == Some(true));
 }
 
 /// A command that reads: its words and an input, with what it writes.
@@ -182,189 +218,219 @@ const REPLAY: Command<'static> = Command {
 const ACCOUNT: &[u8] =
     b"t a\nj p 1 1 4\np cnf 0 0\na 0\ne\nhistory\nh mal 1 1\no a p 1 1 4\nr a p 1\nc a p\nb a p 1\ns a p 0 1\nf a p 0 1 ran\n";
 
-/// What a command answers where a call of the source fails, which gives a byte a call.
-fn answer_where<R: Threads + Wait + Sync>(
+/// Whether a command comes to this end where a call of the source fails, which gives a byte a call.
+fn fails_at<R: Threads + Wait + Sync>(
     rt: &R,
     alloc: Global,
     command: &Command,
     call: u64,
-) -> Result<Told, AllocError> {
+    end: &End,
+) -> bool {
     let failing = [call];
     let mut source = MemSource::new(command.input, 1, &failing);
-    answer_to(rt, alloc, command.parts, &mut source, &NONE)
+    comes_to(rt, alloc, command.parts, &mut source, &NONE, end) == Some(true)
 }
 
-/// Each call of the source fails in turn, up to the one that finds the end, and nothing is written. With no fault the
-/// command writes what it has to.
-fn fail_in_turn<R: Threads + Wait + Sync + Abort>(
-    rt: &R,
-    alloc: Global,
-    command: &Command,
-) -> Result<(), Fail> {
+/// Whether nothing is written where one call of the source fails, each in turn, up to the one that finds the end, and
+/// the command writes what it has to with no fault.
+fn fails_in_turn<R: Threads + Wait + Sync>(rt: &R, alloc: Global, command: &Command) -> bool {
     let calls = (command.input.len() as u64).saturating_add(2);
+    let nothing = End::with(4, b"", b"");
     for call in 1..calls {
-        let told = answer_where(rt, alloc, command, call)?;
-        told.check(rt, 4, b"", b"")?;
+        if !fails_at(rt, alloc, command, call, &nothing) {
+            return false;
+        }
     }
-    let told = answer_where(rt, alloc, command, calls)?;
-    told.check(rt, 0, command.out, command.log)
+    fails_at(
+        rt,
+        alloc,
+        command,
+        calls,
+        &End::with(0, command.out, command.log),
+    )
 }
 
 #[test]
-fn a_source_that_fails_is_told_and_nothing_is_written(rt: HostRuntime) -> Result<(), Fail> {
-    let alloc = rt.alloc();
-    assert_eq!(rt; SCRIPT.len(), 30);
-    fail_in_turn(&rt, alloc, &RUN)?;
-    fail_in_turn(&rt, alloc, &CHECK)?;
-    fail_in_turn(&rt, alloc, &REPLAY)
+fn a_source_that_fails_is_told_and_nothing_is_written(rt: HostRuntime) {
+    assert!(rt; SCRIPT.len() == 30);
+    for command in &[RUN, CHECK, REPLAY] {
+        assert!(rt; fails_in_turn(&rt, rt.alloc(), command));
+    }
 }
 
-/// What a command answers where the sinks fail. The source gives so many bytes a call.
+/// Whether a command comes to this end where the sinks fail. The source gives so many bytes a call.
 fn cut_short<R: Threads + Wait + Sync>(
     rt: &R,
     alloc: Global,
     command: &Command,
     sinks: &Sinks,
-) -> Result<Told, AllocError> {
+    end: &End,
+) -> bool {
     let mut source = MemSource::new(command.input, 4, &[]);
-    answer_to(rt, alloc, command.parts, &mut source, sinks)
+    comes_to(rt, alloc, command.parts, &mut source, sinks, end) == Some(true)
 }
 
-/// What a command answers whose output, or else its log, fails so.
-fn answer_with<R: Threads + Wait + Sync>(
-    rt: &R,
-    alloc: Global,
-    command: &Command,
-    is_out: bool,
-    sinking: Sinking,
-) -> Result<Told, AllocError> {
-    let sinks = if is_out {
-        Sinks {
+/// An output, or else a log.
+#[derive(Clone, Copy)]
+enum Device {
+    Out,
+    Log,
+}
+
+/// The sinks of which this one fails so.
+fn sinks_of(device: Device, sinking: Sinking) -> Sinks {
+    match device {
+        Device::Out => Sinks {
             out: sinking,
             log: WHOLE,
-        }
-    } else {
-        Sinks {
+        },
+        Device::Log => Sinks {
             out: WHOLE,
             log: sinking,
-        }
-    };
-    cut_short(rt, alloc, command, &sinks)
+        },
+    }
 }
 
-/// An output or a log that fails at its byte behind so many, and one that is full there, keep that front of their text.
-/// The output is written behind the whole log, and where the log fails it gets nothing.
-fn keeps_front<R: Threads + Wait + Sync + Abort>(
+/// What a command comes to whose output, or else whose log, takes that front of its text alone. The output is written
+/// behind the whole log, and where the log fails it gets nothing.
+fn end_at<'a>(command: &Command<'a>, device: Device, front: usize) -> Option<End<'a>> {
+    Some(match device {
+        Device::Out => End::with(5, command.out.get(..front)?, command.log),
+        Device::Log => End::with(5, b"", command.log.get(..front)?),
+    })
+}
+
+/// Whether an output or a log that fails at its byte behind so many, and one that is full there, keep that front of
+/// their text.
+fn keeps_front<R: Threads + Wait + Sync>(
     rt: &R,
     alloc: Global,
     command: &Command,
-    is_out: bool,
+    device: Device,
     front: usize,
-) -> Result<(), Fail> {
-    let text = if is_out { command.out } else { command.log };
-    let kept = text.get(..front).ok_or("no front")?;
-    let (out, log) = if is_out {
-        (kept, command.log)
-    } else {
-        (b"".as_slice(), kept)
+) -> bool {
+    let Some(end) = end_at(command, device, front) else {
+        return false;
     };
     let failing = [(front as u64).saturating_add(1)];
-    let told = answer_with(rt, alloc, command, is_out, Sinking::failing(&failing))?;
-    told.check(rt, 5, out, log)?;
-    let told = answer_with(rt, alloc, command, is_out, Sinking::full(front))?;
-    told.check(rt, 5, out, log)
+    let failed = sinks_of(device, Sinking::failing(&failing));
+    let full = sinks_of(device, Sinking::full(front));
+    cut_short(rt, alloc, command, &failed, &end) && cut_short(rt, alloc, command, &full, &end)
+}
+
+/// Whether each front of so many is kept.
+fn keeps_fronts<R: Threads + Wait + Sync>(
+    rt: &R,
+    alloc: Global,
+    command: &Command,
+    device: Device,
+    fronts: usize,
+) -> bool {
+    for front in 0..fronts {
+        if !keeps_front(rt, alloc, command, device, front) {
+            return false;
+        }
+    }
+    true
 }
 
 #[test]
-fn a_log_that_fails_is_told_and_keeps_a_front(rt: HostRuntime) -> Result<(), Fail> {
-    assert_eq!(rt; LOG.len(), 68);
-    for front in 0..68usize {
-        keeps_front(&rt, rt.alloc(), &RUN, false, front)?;
-    }
-    Ok(())
+fn a_log_that_fails_is_told_and_keeps_a_front(rt: HostRuntime) {
+    assert!(rt; LOG.len() == 68);
+    assert!(rt; keeps_fronts(&rt, rt.alloc(), &RUN, Device::Log, 68));
 }
 
 #[test]
-fn an_output_that_fails_is_told_and_keeps_a_front(rt: HostRuntime) -> Result<(), Fail> {
-    let alloc = rt.alloc();
-    assert_eq!(rt; REPLY.len(), 26);
-    for front in 0..26usize {
-        keeps_front(&rt, alloc, &RUN, true, front)?;
-        keeps_front(&rt, alloc, &REPLAY, true, front)?;
+fn an_output_that_fails_is_told_and_keeps_a_front(rt: HostRuntime) {
+    assert!(rt; REPLY.len() == 26);
+    for command in &[RUN, REPLAY, CHECK] {
+        assert!(rt; keeps_fronts(&rt, rt.alloc(), command, Device::Out, command.out.len()));
     }
-    for front in 0..CHECK.out.len() {
-        keeps_front(&rt, alloc, &CHECK, true, front)?;
-    }
-    Ok(())
 }
 
 #[test]
-fn sinks_with_room_for_their_texts_get_them(rt: HostRuntime) -> Result<(), Fail> {
+fn sinks_with_room_for_their_texts_get_them(rt: HostRuntime) {
     let sinks = Sinks {
         out: Sinking::full(26),
         log: Sinking::full(68),
     };
-    let told = cut_short(&rt, rt.alloc(), &RUN, &sinks)?;
-    told.check(&rt, 0, REPLY, LOG)
+    assert!(rt; cut_short(&rt, rt.alloc(), &RUN, &sinks, &End::with(0, REPLY, LOG)));
+}
+
+/// The run of another script.
+fn run_of(input: &[u8]) -> Command {
+    Command { input, ..RUN }
 }
 
 #[test]
-fn a_fault_keeps_its_status_where_the_log_fails(rt: HostRuntime) -> Result<(), Fail> {
-    let command = Command {
-        input: b"t a\nj p 1 1 4\np cnf 1 0\na 1 -1 0\ne\n",
-        ..RUN
-    };
+fn a_fault_keeps_its_status_where_the_log_fails(rt: HostRuntime) {
+    let command = run_of(b"t a\nj p 1 1 4\np cnf 1 0\na 1 -1 0\ne\n");
     let sinks = Sinks {
         out: WHOLE,
         log: Sinking::failing(&[1]),
     };
-    let told = cut_short(&rt, rt.alloc(), &command, &sinks)?;
-    told.check(&rt, 3, b"", b"")
+    assert!(rt; cut_short(&rt, rt.alloc(), &command, &sinks, &End::with(3, b"", b"")));
 }
 
-/// The status of a run of a script, whose fault is told, and which writes no reply where there is one.
-fn status_of<R: Threads + Wait + Sync + Abort>(
-    rt: &R,
-    alloc: Global,
-    script: &[u8],
-) -> Result<u8, Fail> {
-    let command = Command {
-        input: script,
-        ..RUN
-    };
-    let told = cut_short(rt, alloc, &command, &NONE)?;
-    if told.status == 3 {
-        assert_eq!(rt; told.out.as_slice(), b"".as_slice());
-        assert!(rt; told.log.as_slice().starts_with(b"fault: script line "));
-    }
-    Ok(told.status)
-}
+/// A script is served, whatever its replies are.
+const SERVED: End<'static> = End {
+    status: 0,
+    out: Known::Begins(b""),
+    log: Known::Begins(b""),
+};
 
-/// Fronts of the script are scripts where they end with its tenant or its job, with or without the end of that line,
-/// and where they are empty.
-#[test]
-fn a_script_that_is_cut_off_is_refused(rt: HostRuntime) -> Result<(), Fail> {
-    let alloc = rt.alloc();
-    let whole = [0, 3, 4, 29, 30];
+/// The fault of a script is told, and no reply is written.
+const REFUSED: End<'static> = End {
+    status: 3,
+    out: Known::Is(b""),
+    log: Known::Begins(b"fault: script line "),
+};
+
+/// Whether each front of the script comes to what it has to: fronts are scripts where they end with its tenant or its
+/// job, with or without the end of that line, and where they are empty.
+fn fronts_are_refused<R: Threads + Wait + Sync>(rt: &R, alloc: Global) -> bool {
     for len in 0..31usize {
-        let front = SCRIPT.get(..len).ok_or("no front")?;
-        let wanted = if whole.contains(&len) { 0 } else { 3 };
-        assert_eq!(rt; status_of(&rt, alloc, front)?, wanted);
+        let Some(front) = SCRIPT.get(..len) else {
+            return false;
+        };
+        let end = if [0, 3, 4, 29, 30].contains(&len) {
+            SERVED
+        } else {
+            REFUSED
+        };
+        if !cut_short(rt, alloc, &run_of(front), &NONE, &end) {
+            return false;
+        }
     }
-    Ok(())
+    true
 }
 
-/// A byte outside ASCII stands in no word of a script, and ends none.
 #[test]
-fn a_script_with_a_byte_outside_ascii_is_refused(rt: HostRuntime) -> Result<(), Fail> {
-    let alloc = rt.alloc();
+fn a_script_that_is_cut_off_is_refused(rt: HostRuntime) {
+    assert!(rt; fronts_are_refused(&rt, rt.alloc()));
+}
+
+/// The script with a byte outside ASCII at a place.
+fn changed_at(place: usize) -> Option<[u8; 30]> {
+    let mut other: [u8; 30] = *SCRIPT.first_chunk()?;
+    *other.get_mut(place)? = 0xff;
+    Some(other)
+}
+
+/// Whether the script is refused with a byte outside ASCII at each place: it stands in no word of a script, and ends none.
+fn changed_are_refused<R: Threads + Wait + Sync>(rt: &R, alloc: Global) -> bool {
     for place in 0..30usize {
-        let mut other = copied(alloc, SCRIPT)?;
-        match other.get_mut(place) {
-            None => return Err(Fail::from("no such place")),
-            Some(byte) => *byte = 0xff,
+        let Some(other) = changed_at(place) else {
+            return false;
+        };
+        if !cut_short(rt, alloc, &run_of(&other), &NONE, &REFUSED) {
+            return false;
         }
-        assert_eq!(rt; status_of(&rt, alloc, other.as_slice())?, 3);
     }
-    Ok(())
+    true
+}
+
+#[test]
+fn a_script_with_a_byte_outside_ascii_is_refused(rt: HostRuntime) {
+    assert!(rt; changed_are_refused(&rt, rt.alloc()));
 }

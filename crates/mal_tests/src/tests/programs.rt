@@ -3,9 +3,8 @@
 use mal_cli::top;
 use mal_io::{MemSink, MemSource};
 use mal_pool::Gate;
-use std::alloc::{AllocError, Global};
+use std::alloc::Global;
 use std::sync::Wait;
-use std::test::Fail;
 use std::thread::Threads;
 
 /// What came of a run: its status, the bytes of its output, and those of its log.
@@ -19,52 +18,77 @@ pub struct RunTexts {
 /// Room for what a sink gets.
 const ROOM: usize = 1 << 20;
 
-/// The words of a run with so many workers.
-fn words(alloc: Global, workers: u32) -> Result<Vec<String>, AllocError> {
-    let mut words = Vec::new(alloc);
-    words.push(String::from_str(alloc, "mal")?)?;
-    words.push(String::from_str(alloc, "run")?)?;
-    words.push(String::from_str(alloc, "--workers")?)?;
-    words.push(format!(in alloc; "{}", workers)?)?;
-    Ok(words)
+/// Puts words into a list, as the program gets them.
+fn put_words(alloc: Global, words: &mut Vec<String>, parts: &[&str]) -> Option<()> {
+    for part in parts {
+        words.push(String::from_str(alloc, part).ok()?).ok()?;
+    }
+    Some(())
 }
 
-/// Runs the script of a text with so many workers.
+/// These words as the program gets them.
+pub fn words(alloc: Global, parts: &[&str]) -> Option<Vec<String>> {
+    let mut words = Vec::new(alloc);
+    if put_words(alloc, &mut words, parts).is_some() {
+        return Some(words);
+    }
+    drop(words);
+    None
+}
+
+/// Runs the script of a text with as many workers as this word says.
 pub fn run<R: Threads + Wait + Sync, G: Gate>(
     rt: &R,
     alloc: Global,
-    workers: u32,
+    workers: &str,
     text: &[u8],
     gate: &G,
-) -> Result<RunTexts, Fail> {
-    let words = words(alloc, workers)?;
-    let mut source = MemSource::new(text, 4_096, &[]);
-    let mut out = MemSink::new(alloc, ROOM, 4_096, &[])?;
-    let mut log = MemSink::new(alloc, ROOM, 4_096, &[])?;
-    let status = top(
-        rt,
-        alloc,
-        words.as_slice(),
-        &mut source,
-        &mut out,
-        &mut log,
-        gate,
-    );
-    Ok(RunTexts {
-        status,
-        out: Vec::from_slice(alloc, out.bytes())?,
-        log: Vec::from_slice(alloc, log.bytes())?,
-    })
+) -> Option<RunTexts> {
+    let words = words(alloc, &["mal", "run", "--workers", workers])?;
+    let ran = run_words(rt, alloc, words.as_slice(), text, gate);
+    drop(words);
+    ran
 }
 
-/// The replies that the log of a run replays to, for the script of a text.
-pub fn replayed<R: Threads + Sync>(
+/// Runs the program with these words on a text.
+fn run_words<R: Threads + Wait + Sync, G: Gate>(
     rt: &R,
     alloc: Global,
+    words: &[String],
     text: &[u8],
-    log: &[u8],
-) -> Result<Vec<u8>, Fail> {
-    let script = mal_script::read(alloc, text)?;
-    let history = mal_history::read(alloc, log)?;
-    Ok(mal_replay::replay(rt, alloc, &script, &history)?)
+    gate: &G,
+) -> Option<RunTexts> {
+    let mut out = MemSink::new(alloc, ROOM, 4_096, &[]).ok()?;
+    let ran = run_into(rt, alloc, words, text, &mut out, gate);
+    drop(out);
+    ran
+}
+
+/// The same, with this output.
+fn run_into<R: Threads + Wait + Sync, G: Gate>(
+    rt: &R,
+    alloc: Global,
+    words: &[String],
+    text: &[u8],
+    out: &mut MemSink,
+    gate: &G,
+) -> Option<RunTexts> {
+    let mut source = MemSource::new(text, 4_096, &[]);
+    let mut log = MemSink::new(alloc, ROOM, 4_096, &[]).ok()?;
+    let status = top(rt, alloc, words, &mut source, out, &mut log, gate);
+    let ran = texts(alloc, status, out.bytes(), log.bytes());
+    drop(log);
+    ran
+}
+
+/// What came of a run that wrote these bytes.
+fn texts(alloc: Global, status: u8, out: &[u8], log: &[u8]) -> Option<RunTexts> {
+    let out = Vec::from_slice(alloc, out).ok()?;
+    match Vec::from_slice(alloc, log) {
+        Ok(log) => Some(RunTexts { status, out, log }),
+        Err(_) => {
+            drop(out);
+            None
+        }
+    }
 }

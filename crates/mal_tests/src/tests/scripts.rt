@@ -1,85 +1,114 @@
 //! The scripts that are run.
 
-use std::alloc::{AllocError, Global};
+use std::alloc::Global;
+
+/// A script with the replies to it.
+#[derive(Clone, Copy)]
+pub struct Answered {
+    pub script: &'static [u8],
+    pub replies: &'static [u8],
+}
 
 /// Three revisions of one job: one that is satisfiable, one whose assumption fails, and one that is satisfiable again.
-pub const THREE_REVISIONS: &[u8] =
-    b"t a\nj p 1 1 4\np cnf 2 1\n1 2 0\na 0\np cnf 2 1\n-1 0\na -2 0\np cnf 2 0\na 0\ne\n";
-
-/// The replies to them.
-pub const THREE_REPLIES: &[u8] =
-    b"r a p 1\ns SATISFIABLE\nv -1 2 0\nr a p 2\ns UNSATISFIABLE\nk -2 0\nl 3 2 0 2 1 0\nr a p 3\ns SATISFIABLE\nv -1 2 0\n";
+pub const THREE_REVISIONS: Answered = Answered {
+    script: b"t a\nj p 1 1 4\np cnf 2 1\n1 2 0\na 0\np cnf 2 1\n-1 0\na -2 0\np cnf 2 0\na 0\ne\n",
+    replies: b"r a p 1\ns SATISFIABLE\nv -1 2 0\nr a p 2\ns UNSATISFIABLE\nk -2 0\nl 3 2 0 2 1 0\nr a p 3\ns SATISFIABLE\nv -1 2 0\n",
+};
 
 /// Three revisions of a job of one tenant, beside jobs of three others.
-pub const FOUR_TENANTS: &[u8] =
-    b"t a\nj p 1 1 4\np cnf 2 1\n1 2 0\na 0\np cnf 2 1\n-1 0\na -2 0\np cnf 2 0\na 0\ne\nt b\nj p 1 2 4\np cnf 0 0\na 0\ne\nt c\nj p 1 1 4\np cnf 0 0\na 0\ne\nt d\nj p 1 3 4\np cnf 0 0\na 0\ne\n";
+pub const FOUR_TENANTS: Answered = Answered {
+    script: b"t a\nj p 1 1 4\np cnf 2 1\n1 2 0\na 0\np cnf 2 1\n-1 0\na -2 0\np cnf 2 0\na 0\ne\nt b\nj p 1 2 4\np cnf 0 0\na 0\ne\nt c\nj p 1 1 4\np cnf 0 0\na 0\ne\nt d\nj p 1 3 4\np cnf 0 0\na 0\ne\n",
+    replies: b"r a p 1\ns SATISFIABLE\nv -1 2 0\nr a p 2\ns UNSATISFIABLE\nk -2 0\nl 3 2 0 2 1 0\nr a p 3\ns SATISFIABLE\nv -1 2 0\nr b p 1\ns SATISFIABLE\nv 0\nr c p 1\ns SATISFIABLE\nv 0\nr d p 1\ns SATISFIABLE\nv 0\n",
+};
 
-/// The replies to them.
-pub const FOUR_REPLIES: &[u8] =
-    b"r a p 1\ns SATISFIABLE\nv -1 2 0\nr a p 2\ns UNSATISFIABLE\nk -2 0\nl 3 2 0 2 1 0\nr a p 3\ns SATISFIABLE\nv -1 2 0\nr b p 1\ns SATISFIABLE\nv 0\nr c p 1\ns SATISFIABLE\nv 0\nr d p 1\ns SATISFIABLE\nv 0\n";
+/// Two jobs of demand 1 of one tenant, each with one empty revision.
+pub const TWO_JOBS: &[u8] = b"t a\nj p0 1 1 4\np cnf 0 0\na 0\ne\nj p1 1 1 4\np cnf 0 0\na 0\ne\n";
 
-/// So many jobs of demand 1 of one tenant, each with one empty revision.
-pub fn single_jobs(alloc: Global, count: u32) -> Result<Vec<u8>, AllocError> {
+/// Four such jobs.
+pub const FOUR_JOBS: &[u8] =
+    b"t a\nj p0 1 1 4\np cnf 0 0\na 0\ne\nj p1 1 1 4\np cnf 0 0\na 0\ne\nj p2 1 1 4\np cnf 0 0\na 0\ne\nj p3 1 1 4\np cnf 0 0\na 0\ne\n";
+
+/// A tenant's line, and the lines of its four jobs.
+#[derive(Clone, Copy)]
+struct Heads {
+    tenant: &'static [u8],
+    jobs: &'static [&'static [u8]],
+}
+
+/// Four tenants with four jobs each: those of the first ask for one worker, those of the next for two, and so on.
+const HEADS: &[Heads] = &[
+    Heads {
+        tenant: b"t a1\n",
+        jobs: &[
+            b"j p0 1 1 64\n",
+            b"j p1 1 1 64\n",
+            b"j p2 1 1 64\n",
+            b"j p3 1 1 64\n",
+        ],
+    },
+    Heads {
+        tenant: b"t a2\n",
+        jobs: &[
+            b"j p0 1 2 64\n",
+            b"j p1 1 2 64\n",
+            b"j p2 1 2 64\n",
+            b"j p3 1 2 64\n",
+        ],
+    },
+    Heads {
+        tenant: b"t a3\n",
+        jobs: &[
+            b"j p0 1 3 64\n",
+            b"j p1 1 3 64\n",
+            b"j p2 1 3 64\n",
+            b"j p3 1 3 64\n",
+        ],
+    },
+    Heads {
+        tenant: b"t a4\n",
+        jobs: &[
+            b"j p0 1 4 64\n",
+            b"j p1 1 4 64\n",
+            b"j p2 1 4 64\n",
+            b"j p3 1 4 64\n",
+        ],
+    },
+];
+
+/// The block that puts four pigeons into three holes, no two into one, and the end of its job.
+const PIGEONS: &[u8] =
+    b"p cnf 12 22\n1 2 3 0\n4 5 6 0\n7 8 9 0\n10 11 12 0\n-4 -1 0\n-7 -1 0\n-7 -4 0\n-10 -1 0\n-10 -4 0\n-10 -7 0\n-5 -2 0\n-8 -2 0\n-8 -5 0\n-11 -2 0\n-11 -5 0\n-11 -8 0\n-6 -3 0\n-9 -3 0\n-9 -6 0\n-12 -3 0\n-12 -6 0\n-12 -9 0\na 0\ne\n";
+
+/// Puts the jobs of one tenant behind a text. False where memory is wanting.
+fn put_tenant(text: &mut Vec<u8>, heads: &Heads) -> bool {
+    if text.extend_from_slice(heads.tenant).is_err() {
+        return false;
+    }
+    for job in heads.jobs {
+        if text.extend_from_slice(job).is_err() || text.extend_from_slice(PIGEONS).is_err() {
+            return false;
+        }
+    }
+    true
+}
+
+/// Puts the jobs of these tenants behind a text. False where memory is wanting.
+fn put_tenants(text: &mut Vec<u8>, tenants: &[Heads]) -> bool {
+    for heads in tenants {
+        if !put_tenant(text, heads) {
+            return false;
+        }
+    }
+    true
+}
+
+/// The jobs of so many of the four tenants.
+pub fn mixed_jobs(alloc: Global, tenants: usize) -> Option<Vec<u8>> {
+    let heads = HEADS.get(..tenants)?;
     let mut text = Vec::new(alloc);
-    text.extend_from_slice(b"t a\n")?;
-    for number in 0..count {
-        let job = format!(in alloc; "j p{} 1 1 4\np cnf 0 0\na 0\ne\n", number)?;
-        text.extend_from_slice(job.as_bytes())?;
+    if put_tenants(&mut text, heads) {
+        return Some(text);
     }
-    Ok(text)
-}
-
-/// Four tenants with four jobs each: those of the first ask for one worker, those of the next for two, and so on up to
-/// this demand. Every job puts four pigeons into three holes.
-pub fn mixed_jobs(alloc: Global, demands: u32) -> Result<Vec<u8>, AllocError> {
-    let mut text = Vec::new(alloc);
-    for demand in 1..=demands {
-        let tenant = format!(in alloc; "t a{}\n", demand)?;
-        text.extend_from_slice(tenant.as_bytes())?;
-        for number in 0..4 {
-            let job = format!(in alloc; "j p{} 1 {} 64\n", number, demand)?;
-            text.extend_from_slice(job.as_bytes())?;
-            put_pigeons(alloc, &mut text)?;
-            text.extend_from_slice(b"a 0\ne\n")?;
-        }
-    }
-    Ok(text)
-}
-
-/// How many pigeons there are, and how many holes.
-const PIGEONS: u32 = 4;
-
-const HOLES: u32 = 3;
-
-/// The formula that puts the pigeons into the holes, no two into one.
-fn put_pigeons(alloc: Global, text: &mut Vec<u8>) -> Result<(), AllocError> {
-    text.extend_from_slice(b"p cnf 12 22\n")?;
-    for pigeon in 0..PIGEONS {
-        for hole in 1..=HOLES {
-            put_number(alloc, text, "", pigeon * HOLES + hole)?;
-        }
-        text.extend_from_slice(b"0\n")?;
-    }
-    for hole in 1..=HOLES {
-        for pigeon in 0..PIGEONS {
-            for other in 0..pigeon {
-                put_number(alloc, text, "-", pigeon * HOLES + hole)?;
-                put_number(alloc, text, "-", other * HOLES + hole)?;
-                text.extend_from_slice(b"0\n")?;
-            }
-        }
-    }
-    Ok(())
-}
-
-/// A literal and a blank behind a text.
-fn put_number(
-    alloc: Global,
-    text: &mut Vec<u8>,
-    sign: &str,
-    number: u32,
-) -> Result<(), AllocError> {
-    let word = format!(in alloc; "{}{} ", sign, number)?;
-    text.extend_from_slice(word.as_bytes())?;
-    Ok(())
+    drop(text);
+    None
 }

@@ -3,17 +3,15 @@
 ghost use Rattle.std.specs.Prelude.{◌≡◌, ◌≤◌, IfOk};
 ghost use Rattle.mal_pool.specs.Posts.{HasRun};
 
-use super::gates::check_replies;
-use super::scripts::{FOUR_REPLIES, FOUR_TENANTS};
+use super::gates::has_replied;
+use super::scripts::FOUR_TENANTS;
 use mal_hall::{Desk, FinishAnswer, Hall, PickAnswer, Post, PostFault};
 use mal_pool::{Board, HallBox, InUse, OwnCalls, PlainGate, Shared, Size, run_alone, run_with};
 use mal_script::Script;
 use mal_suspend::Done;
 use std::alloc::{AllocError, Global};
 use std::marker::Brand;
-use std::process::Abort;
 use std::sync::Wait;
-use std::test::Fail;
 use std::thread::{self, Threads};
 
 /// A board at which a poster waits so many turns before each post.
@@ -93,37 +91,65 @@ fn run_slowly<S: Size + Send + Sync, R: Threads + Wait + Sync>(
     )
 }
 
-/// Four tenants post slowly, and are replied to as if they were quick.
-fn reply_slowly<R: Threads + Wait + Sync + Abort>(
+/// Whether those who post a script slowly are replied to as if they were quick.
+fn slow_replies<R: Threads + Wait + Sync>(
     rt: &R,
     alloc: Global,
+    script: &Script,
     turns: u32,
-) -> Result<(), Fail> {
+) -> Option<bool> {
     let workers = 4;
-    let script = mal_script::read(alloc, FOUR_TENANTS)?;
-    let hall = run_slowly::<Brand, R>(rt, alloc, &script, workers, turns)?;
-    check_replies(rt, alloc, &hall, &script, FOUR_REPLIES)
+    let hall = run_slowly::<Brand, R>(rt, alloc, script, workers, turns).ok()?;
+    let is_known = has_replied(alloc, &hall, script, FOUR_TENANTS.replies);
+    drop(hall);
+    Some(is_known)
+}
+
+/// The same of four tenants.
+fn reply_slowly<R: Threads + Wait + Sync>(rt: &R, alloc: Global, turns: u32) -> Option<bool> {
+    let script = mal_script::read(alloc, FOUR_TENANTS.script).ok()?;
+    let is_known = slow_replies(rt, alloc, &script, turns);
+    drop(script);
+    is_known
 }
 
 #[test]
-fn slow_posters_are_waited_for(rt: HostRuntime) -> Result<(), Fail> {
-    reply_slowly(&rt, rt.alloc(), 50)?;
-    reply_slowly(&rt, rt.alloc(), 20_000)
+fn slow_posters_are_waited_for(rt: HostRuntime) {
+    assert!(rt; reply_slowly(&rt, rt.alloc(), 50) == Some(true));
+    assert!(rt; reply_slowly(&rt, rt.alloc(), 20_000) == Some(true));
 }
 
-/// One worker, for whom no thread is made, waits for no poster: the history is that of a run without a board.
-fn run_one_slowly<R: Threads + Wait + Sync + Abort>(rt: &R, alloc: Global) -> Result<(), Fail> {
+/// The text of the history of one worker's run over a slow board.
+fn slow_history<R: Threads + Wait + Sync>(
+    rt: &R,
+    alloc: Global,
+    script: &Script,
+) -> Option<Vec<u8>> {
     let workers = 1;
-    let script = mal_script::read(alloc, FOUR_TENANTS)?;
-    let hall = run_slowly::<Brand, R>(rt, alloc, &script, workers, 50)?;
-    let alone = run_alone(alloc, &script, workers)?;
-    let text = mal_history::write(alloc, hall.history())?;
-    let known = mal_history::write(alloc, alone.history())?;
-    assert_eq!(rt; text.as_slice(), known.as_slice());
-    Ok(())
+    let hall = run_slowly::<Brand, R>(rt, alloc, script, workers, 50).ok()?;
+    let text = mal_history::write(alloc, hall.history()).ok();
+    drop(hall);
+    text
+}
+
+/// The text of the history of a run without a board.
+fn alone_history(alloc: Global, script: &Script) -> Option<Vec<u8>> {
+    let hall = run_alone(alloc, script, 1).ok()?;
+    let text = mal_history::write(alloc, hall.history()).ok();
+    drop(hall);
+    text
+}
+
+/// Whether one worker, for whom no thread is made, waits for no poster: the history is that of a run without a board.
+fn runs_one_slowly<R: Threads + Wait + Sync>(rt: &R, alloc: Global) -> Option<bool> {
+    let script = mal_script::read(alloc, FOUR_TENANTS.script).ok()?;
+    let slow = slow_history(rt, alloc, &script);
+    let known = alone_history(alloc, &script);
+    drop(script);
+    Some(slow?.as_slice() == known?.as_slice())
 }
 
 #[test]
-fn one_worker_waits_for_no_poster(rt: HostRuntime) -> Result<(), Fail> {
-    run_one_slowly(&rt, rt.alloc())
+fn one_worker_waits_for_no_poster(rt: HostRuntime) {
+    assert!(rt; runs_one_slowly(&rt, rt.alloc()) == Some(true));
 }

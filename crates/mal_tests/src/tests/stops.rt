@@ -1,18 +1,20 @@
 //! Runs whose gate stops workers: what they held is lost, and the replies are the same.
 
-use super::scripts::{THREE_REPLIES, THREE_REVISIONS};
+ghost use Rattle.std.specs.Prelude.{ℕ};
+ghost use Rattle.mal_pool.specs.Posts.{HasRun};
+
+use super::scripts::{Answered, THREE_REVISIONS};
 use mal_base::Outcome;
+use mal_hall::Hall;
 use mal_history::{Event, History};
 use mal_pool::{Gate, PlainGate, Point, Step, replies, run_all};
-use mal_script::read;
+use mal_script::{Script, read};
 use std::alloc::Global;
-use std::process::Abort;
 use std::sync::Wait;
-use std::test::Fail;
 use std::thread::Threads;
 
 /// A gate that stops everyone at a point, of the starts from one to another.
-#[derive(Clone, Copy, Debug)]
+#[derive(Clone, Copy)]
 struct StopAt {
     point: Point,
     first: u64,
@@ -75,85 +77,98 @@ fn started_and_lost(history: &History) -> (usize, usize) {
     (started, lost)
 }
 
-/// The replies of four workers to a script, and how many starts stand before the recall and how many leases were lost.
+/// How many starts of a hall that has run a script stand before the recall, and how many leases were lost. None where it
+/// does not reply like this.
+fn replied(alloc: Global, hall: &Hall, script: &Script, known: &[u8]) -> Option<(usize, usize)>
+    requires { (workers : ℕ) × HasRun workers script.now hall.now }
+{
+    let text = replies(alloc, hall, script).ok()?;
+    let is_known = text.as_slice() == known;
+    drop(text);
+    if is_known {
+        Some(started_and_lost(hall.history()))
+    } else {
+        None
+    }
+}
+
+/// The same of four workers who run a script.
 fn stopped<R: Threads + Wait + Sync, G: Gate>(
     rt: &R,
     alloc: Global,
-    text: &[u8],
+    script: &Script,
+    known: &[u8],
     gate: &G,
-) -> Result<(Vec<u8>, (usize, usize)), Fail> {
-    let script = read(alloc, text)?;
-    let hall = run_all(rt, alloc, &script, 4, gate)?;
-    Ok((
-        replies(alloc, &hall, &script)?,
-        started_and_lost(hall.history()),
-    ))
+) -> Option<(usize, usize)> {
+    let hall = run_all(rt, alloc, script, 4, gate).ok()?;
+    let counts = replied(alloc, &hall, script, known);
+    drop(hall);
+    counts
 }
 
-/// Runs three revisions with a gate that stops each slice at a point, and compares the replies. Each lease before the
-/// recall is lost.
-fn lose_each<R: Threads + Wait + Sync + Abort>(
+/// The same of a script that is read.
+fn stops<R: Threads + Wait + Sync, G: Gate>(
     rt: &R,
     alloc: Global,
-    point: Point,
-) -> Result<(), Fail> {
-    let (text, (started, lost)) = stopped(rt, alloc, THREE_REVISIONS, &StopAt::each(point))?;
-    assert_eq!(rt; text.as_slice(), THREE_REPLIES);
-    assert!(rt; started > 0);
-    assert_eq!(rt; lost, started);
-    Ok(())
+    known: Answered,
+    gate: &G,
+) -> Option<(usize, usize)> {
+    let script = read(alloc, known.script).ok()?;
+    let counts = stopped(rt, alloc, &script, known.replies, gate);
+    drop(script);
+    counts
+}
+
+/// Whether three revisions are replied to alike where a gate stops each slice at a point, and each lease before the recall
+/// is lost.
+fn loses_each<R: Threads + Wait + Sync>(rt: &R, alloc: Global, point: Point) -> bool {
+    match stops(rt, alloc, THREE_REVISIONS, &StopAt::each(point)) {
+        Some((started, lost)) => started > 0 && lost == started,
+        None => false,
+    }
 }
 
 #[test]
-fn who_stops_at_each_slice_loses_each_lease(rt: HostRuntime) -> Result<(), Fail> {
-    lose_each(&rt, rt.alloc(), Point::Before)?;
-    lose_each(&rt, rt.alloc(), Point::After)
+fn who_stops_at_each_slice_loses_each_lease(rt: HostRuntime) {
+    assert!(rt; loses_each(&rt, rt.alloc(), Point::Before));
+    assert!(rt; loses_each(&rt, rt.alloc(), Point::After));
 }
 
 /// Eight jobs of two tenants.
-const EIGHT_JOBS: &[u8] =
-    b"t a\nj p 1 1 4\np cnf 2 1\n1 2 0\na 0\ne\nj q 1 1 4\np cnf 2 4\n1 2 0\n1 -2 0\n-1 2 0\n-1 -2 0\na 0\ne\nj r 1 1 4\np cnf 2 1\n-1 -2 0\na 1 2 0\ne\nj s 1 1 4\np cnf 0 0\na 0\ne\nt b\nj p 1 1 4\np cnf 2 1\n1 2 0\na 0\ne\nj q 1 1 4\np cnf 2 4\n1 2 0\n1 -2 0\n-1 2 0\n-1 -2 0\na 0\ne\nj r 1 1 4\np cnf 2 1\n-1 -2 0\na 1 2 0\ne\nj s 1 1 4\np cnf 0 0\na 0\ne\n";
+const EIGHT: Answered = Answered {
+    script: b"t a\nj p 1 1 4\np cnf 2 1\n1 2 0\na 0\ne\nj q 1 1 4\np cnf 2 4\n1 2 0\n1 -2 0\n-1 2 0\n-1 -2 0\na 0\ne\nj r 1 1 4\np cnf 2 1\n-1 -2 0\na 1 2 0\ne\nj s 1 1 4\np cnf 0 0\na 0\ne\nt b\nj p 1 1 4\np cnf 2 1\n1 2 0\na 0\ne\nj q 1 1 4\np cnf 2 4\n1 2 0\n1 -2 0\n-1 2 0\n-1 -2 0\na 0\ne\nj r 1 1 4\np cnf 2 1\n-1 -2 0\na 1 2 0\ne\nj s 1 1 4\np cnf 0 0\na 0\ne\n",
+    replies: b"r a p 1\ns SATISFIABLE\nv -1 2 0\nr a q 1\ns UNSATISFIABLE\nk 0\nl 5 1 0 1 2 0\nl 6 0 5 3 4 0\nr a r 1\ns UNSATISFIABLE\nk 1 2 0\nl 2 -1 -2 0 1 0\nr a s 1\ns SATISFIABLE\nv 0\nr b p 1\ns SATISFIABLE\nv -1 2 0\nr b q 1\ns UNSATISFIABLE\nk 0\nl 5 1 0 1 2 0\nl 6 0 5 3 4 0\nr b r 1\ns UNSATISFIABLE\nk 1 2 0\nl 2 -1 -2 0 1 0\nr b s 1\ns SATISFIABLE\nv 0\n",
+};
 
-/// The replies to them.
-const EIGHT_REPLIES: &[u8] =
-    b"r a p 1\ns SATISFIABLE\nv -1 2 0\nr a q 1\ns UNSATISFIABLE\nk 0\nl 5 1 0 1 2 0\nl 6 0 5 3 4 0\nr a r 1\ns UNSATISFIABLE\nk 1 2 0\nl 2 -1 -2 0 1 0\nr a s 1\ns SATISFIABLE\nv 0\nr b p 1\ns SATISFIABLE\nv -1 2 0\nr b q 1\ns UNSATISFIABLE\nk 0\nl 5 1 0 1 2 0\nl 6 0 5 3 4 0\nr b r 1\ns UNSATISFIABLE\nk 1 2 0\nl 2 -1 -2 0 1 0\nr b s 1\ns SATISFIABLE\nv 0\n";
-
-/// Runs eight jobs with a gate that stops one point at most, and compares the replies. How many leases were lost.
-fn eight_reply_alike<R: Threads + Wait + Sync + Abort, G: Gate>(
+/// How many leases are lost where eight jobs are run with a gate that stops one point at most. None where the replies are
+/// others, or more than one is lost.
+fn eight_reply_alike<R: Threads + Wait + Sync, G: Gate>(
     rt: &R,
     alloc: Global,
     gate: &G,
-) -> Result<usize, Fail> {
-    let (text, (_, lost)) = stopped(rt, alloc, EIGHT_JOBS, gate)?;
-    assert_eq!(rt; text.as_slice(), EIGHT_REPLIES);
-    assert!(rt; lost <= 1);
-    Ok(lost)
+) -> Option<usize> {
+    let (_, lost) = stops(rt, alloc, EIGHT, gate)?;
+    if lost <= 1 { Some(lost) } else { None }
 }
 
 #[test]
-fn no_stop_loses_no_lease(rt: HostRuntime) -> Result<(), Fail> {
-    let lost = eight_reply_alike(&rt, rt.alloc(), &PlainGate)?;
-    assert_eq!(rt; lost, 0);
-    Ok(())
+fn no_stop_loses_no_lease(rt: HostRuntime) {
+    assert!(rt; eight_reply_alike(&rt, rt.alloc(), &PlainGate) == Some(0));
 }
 
-/// Each of eight starts is stopped at a point in a run of its own. Some of them lose a lease.
-fn stop_any_one<R: Threads + Wait + Sync + Abort>(
-    rt: &R,
-    alloc: Global,
-    point: Point,
-) -> Result<(), Fail> {
+/// Whether each of eight starts that is stopped at a point, in a run of its own, changes no reply, and some of them lose a
+/// lease.
+fn stops_any_one<R: Threads + Wait + Sync>(rt: &R, alloc: Global, point: Point) -> Option<bool> {
     let mut lost: usize = 0;
     for start in 1..9 {
         let one = eight_reply_alike(rt, alloc, &StopAt::one(point, start))?;
         lost = lost.saturating_add(one);
     }
-    assert!(rt; lost > 0);
-    Ok(())
+    Some(lost > 0)
 }
 
 #[test]
-fn a_stop_at_any_one_slice_changes_no_reply(rt: HostRuntime) -> Result<(), Fail> {
-    stop_any_one(&rt, rt.alloc(), Point::Before)?;
-    stop_any_one(&rt, rt.alloc(), Point::After)
+fn a_stop_at_any_one_slice_changes_no_reply(rt: HostRuntime) {
+    assert!(rt; stops_any_one(&rt, rt.alloc(), Point::Before) == Some(true));
+    assert!(rt; stops_any_one(&rt, rt.alloc(), Point::After) == Some(true));
 }

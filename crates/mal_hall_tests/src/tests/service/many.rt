@@ -5,8 +5,8 @@ ghost use Rattle.std.specs.List.{All};
 ghost use Rattle.mal_turn.specs.Tokens.{IsOf};
 
 use super::{Caller, opening, post_to, revising};
-use crate::tests::hall::{Told, drive, hear, name};
-use mal_base::{Clause, ClauseList, Lit, ReplyFault};
+use crate::tests::hall::{Told, drive, hear, list_of, name};
+use mal_base::{Clause, Lit, ReplyFault};
 use mal_hall::Hall;
 use mal_revision::Revision;
 use mal_service::{Pass, Service, Size};
@@ -88,8 +88,12 @@ impl Tenant {
     fn hear(&mut self, revision: u32, answer: Result<Option<Vec<u8>>, ReplyFault>) {
         match answer {
             Ok(Some(text)) => {
-                if self.heard.push(Heard { revision, text }).is_err() {
-                    self.is_wrong = true;
+                match self.heard.push(Heard { revision, text }) {
+                    Ok(()) => {}
+                    Err(refused) => {
+                        drop(refused);
+                        self.is_wrong = true;
+                    }
                 }
             }
             Ok(None) => {}
@@ -98,13 +102,18 @@ impl Tenant {
     }
 }
 
-/// Sixteen tenants.
-fn all_tenants(alloc: Global) -> Result<Vec<Tenant>, AllocError> {
-    let mut tenants = Vec::new(alloc);
+/// Puts sixteen tenants into a list. False where memory is wanting.
+fn put_tenants(alloc: Global, tenants: &mut Vec<Tenant>) -> bool {
     for number in 0..16 {
-        tenants.push(Tenant::new(alloc, number))?;
+        match tenants.push(Tenant::new(alloc, number)) {
+            Ok(()) => {}
+            Err(refused) => {
+                drop(refused);
+                return false;
+            }
+        }
     }
-    Ok(tenants)
+    true
 }
 
 /// A literal of a variable, by a random number.
@@ -121,9 +130,7 @@ fn lit(variable: i32, drawn: u64) -> Option<Lit> {
 fn revision_of(alloc: Global, seed: u64) -> Option<Revision> {
     let lits = [lit(1, seed / 2)?, lit(3, seed / 4)?];
     let clause = Clause::of_lits(alloc, &lits).ok()?;
-    let mut clauses = ClauseList::new(alloc);
-    clauses.push(&clause).ok()?;
-    Revision::new(alloc, 3, clauses, &[]).ok()
+    Revision::new(alloc, 3, list_of(alloc, clause)?, &[]).ok()
 }
 
 impl<R: Wait> Caller<'_, R, Sixteen> {
@@ -133,7 +140,7 @@ impl<R: Wait> Caller<'_, R, Sixteen> {
         ensures { IsOf self.now.service.now.turn result }
     {
         let seed = tenant.draw();
-        let revision = revising(self.alloc, &tenant.letter(), revision_of(self.alloc, seed));
+        let revision = revising(&tenant.letter(), revision_of(self.alloc, seed));
         let (pass, is_posted) = self.post(pass, revision);
         tenant.note(seed, is_posted);
         pass
@@ -195,7 +202,7 @@ impl<R: Wait> Caller<'_, R, Sixteen> {
         ensures { IsOf self.now.service.now.turn result }
     {
         for tenant in tenants {
-            let (next, is_open) = self.post(pass, opening(self.alloc, &tenant.letter()));
+            let (next, is_open) = self.post(pass, opening(&tenant.letter()));
             pass = next;
             if !is_open {
                 tenant.is_wrong = true;
@@ -310,16 +317,31 @@ impl<R: Wait> Caller<'_, R, Sixteen> {
         }
         pass
     }
+
+    /// Has tenants share the service, and ask for all replies.
+    fn share(
+        &self,
+        pass: Pass<Sixteen>,
+        tenants: &mut [Tenant],
+    ) -> Result<Pass<Sixteen>, AllocError>
+        requires { IsOf self.now.service.now.turn pass }
+        ensures { IfOk result (λ p. IsOf self.now.service.now.turn p) }
+    {
+        let pass = self.open_all(pass, tenants);
+        let pass = self.play_all(pass, tenants)?;
+        let pass = self.work_off(pass);
+        Ok(self.listen_for_all(pass, tenants))
+    }
 }
 
 /// Posts what a tenant posted to a hall that has its job alone, and drives the hall.
 fn answer_alone(alloc: Global, hall: &mut Hall, tenant: &Tenant) -> bool {
     let letter = tenant.letter();
-    if !post_to(hall, opening(alloc, &letter)) {
+    if !post_to(hall, opening(&letter)) {
         return false;
     }
     for seed in tenant.posted.as_slice() {
-        if !post_to(hall, revising(alloc, &letter, revision_of(alloc, *seed))) {
+        if !post_to(hall, revising(&letter, revision_of(alloc, *seed))) {
             return false;
         }
     }
@@ -352,7 +374,23 @@ fn is_as_alone(alloc: Global, tenant: &Tenant) -> bool {
     match Hall::new(alloc, 1) {
         Ok(hall) => {
             let mut hall = hall;
-            answer_alone(alloc, &mut hall, tenant) && replies_so(alloc, &hall, tenant)
+            let is_alike = answer_alone(alloc, &mut hall, tenant)
+                && replies_so(alloc, &hall, tenant);
+            drop(hall);
+            is_alike
+        }
+        Err(_) => false,
+    }
+}
+
+/// Whether a service that is closed is not in use.
+fn is_closed(service: Service<Sixteen>, pass: Pass<Sixteen>) -> bool
+    requires { IsOf service.turn pass }
+{
+    match service.close(pass) {
+        Ok(hall) => {
+            drop(hall);
+            true
         }
         Err(_) => false,
     }
@@ -361,25 +399,39 @@ fn is_as_alone(alloc: Global, tenant: &Tenant) -> bool {
 /// Tenants share a service, ask for all replies and close it. False where it is still in use then.
 fn is_shared<R: Wait>(rt: &R, alloc: Global, tenants: &mut [Tenant]) -> Result<bool, AllocError> {
     let (service, pass) = Service::<Sixteen>::new(alloc, 16)?;
-    let caller = Caller::new(rt, alloc, &service);
-    let pass = caller.open_all(pass, tenants);
-    let pass = caller.play_all(pass, tenants)?;
-    let pass = caller.work_off(pass);
-    let pass = caller.listen_for_all(pass, tenants);
-    Ok(service.close(pass).is_ok())
+    match Caller::new(rt, alloc, &service).share(pass, tenants) {
+        Ok(pass) => Ok(is_closed(service, pass)),
+        Err(error) => {
+            drop(service);
+            Err(error)
+        }
+    }
+}
+
+/// How many tenants heard what is replied by a hall of their own.
+fn count_alike(alloc: Global, tenants: &[Tenant]) -> usize {
+    tenants
+        .iter()
+        .filter(|tenant| is_as_alone(alloc, tenant))
+        .count()
+}
+
+/// How many of sixteen tenants hear what a hall of their own replies. None where the service is still in use at the end,
+/// or memory is wanting.
+fn heard_alike<R: Wait>(rt: &R, alloc: Global) -> Option<usize> {
+    let mut tenants = Vec::new(alloc);
+    let is_made = put_tenants(alloc, &mut tenants);
+    let shared = is_shared(rt, alloc, tenants.as_mut_slice());
+    let alike = count_alike(alloc, tenants.as_slice());
+    drop(tenants);
+    if is_made && shared == Ok(true) {
+        Some(alike)
+    } else {
+        None
+    }
 }
 
 #[test]
-fn sixteen_tenants_hear_what_a_hall_of_their_own_replies(
-    rt: HostRuntime,
-) -> Result<(), AllocError> {
-    let mut tenants = all_tenants(rt.alloc())?;
-    let is_closed = is_shared(&rt, rt.alloc(), tenants.as_mut_slice())?;
-    assert!(rt; is_closed);
-    let alike = tenants
-        .iter()
-        .filter(|tenant| is_as_alone(rt.alloc(), tenant))
-        .count();
-    assert_eq!(rt; alike, 16);
-    Ok(())
+fn sixteen_tenants_hear_what_a_hall_of_their_own_replies(rt: HostRuntime) {
+    assert!(rt; heard_alike(&rt, rt.alloc()) == Some(16));
 }
