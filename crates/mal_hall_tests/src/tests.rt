@@ -2,9 +2,11 @@
 
 mod applying;
 mod balance;
+mod calling;
 mod hall;
 mod inquiry;
 mod long;
+mod making;
 mod packing;
 mod service;
 mod turn;

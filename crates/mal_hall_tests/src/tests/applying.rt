@@ -3,7 +3,8 @@
 ghost use Rattle.std.specs.Prelude.{◌≡◌, ◌≤◌, IfSome};
 ghost use Rattle.mal_hall.specs.Applied.{IsInside};
 
-use super::hall::{Posted, Told, ask, name, revision, worked_off, write};
+use super::calling::{Told, worked_off, write};
+use super::making::{Posted, ask, name, revision};
 use mal_base::{Ask, Name};
 use mal_hall::{Hall, Pick};
 use mal_history::Event;

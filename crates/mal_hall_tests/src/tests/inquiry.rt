@@ -4,7 +4,7 @@ ghost use Rattle.std.specs.Prelude.{◌≤◌, IsTrue, [], length};
 ghost use Rattle.mal_base.specs.Formulas.{literals_of};
 ghost use Rattle.spec_inquiry.specs.Rounds.{IsInquiry};
 
-use super::hall::{Posted, ask, name, revision};
+use super::making::{Posted, ask, name, revision};
 use mal_base::{Ask, Name};
 use mal_inquiry::Inquiry;
 use mal_learn::Scratch;

@@ -1,6 +1,7 @@
 //! A job of some four hundred slices, whose two nodes are kept from lease to lease.
 
-use super::hall::{P, Posted, Told, ask, given, open, pick, revise, unrun, worked_off};
+use super::calling::{P, Told, given, open, pick, revise, unrun, worked_off};
+use super::making::{Posted, ask};
 use mal_hall::Hall;
 use mal_suspend::{Done, Kept};
 use std::alloc::Global;

@@ -1,6 +1,6 @@
 //! Jobs that are packed, or may not be, and go on in another hall.
 
-use super::hall::{Posted, ask, name, revision};
+use super::making::{Posted, ask, name, revision};
 use mal_base::PackFault;
 use mal_hall::{Hall, Pick};
 use mal_learn::Scratch;

@@ -3,7 +3,8 @@
 ghost use Rattle.std.specs.Prelude.{◌≡◌, ◌≤◌};
 ghost use Rattle.mal_turn.specs.Tokens.{IsOf};
 
-use super::hall::{FREE_REPLY, Told, ask, given, heard, name, pick, worked_off, write};
+use super::calling::{FREE_REPLY, Told, given, heard, pick, worked_off, write};
+use super::making::{ask, name};
 use mal_base::{ClauseList, ReplyFault};
 use mal_hall::{Hall, Pick, PickFault, Post};
 use mal_revision::Revision;

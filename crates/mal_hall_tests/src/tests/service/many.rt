@@ -5,7 +5,8 @@ ghost use Rattle.std.specs.List.{All};
 ghost use Rattle.mal_turn.specs.Tokens.{IsOf};
 
 use super::{Caller, opening, post_to, revising};
-use crate::tests::hall::{Told, drive, hear, list_of, name};
+use crate::tests::calling::{Told, drive, hear};
+use crate::tests::making::{list_of, name};
 use mal_base::{Clause, Lit, ReplyFault};
 use mal_hall::Hall;
 use mal_revision::Revision;
