@@ -42,3 +42,17 @@ known_image bytes f e h =
         let b = and_parts (fits_goal f.ended) (is_image (node_in f)) a.1 in
         (rw (e, t) refl, image-is (node_in f) b.1)
     by_test false t k = absurd (rw t at k)
+
+-- reading their fields meets no fault
+pub known_read : (bytes : List ℕ) (fault : ThawFault) → fields_at (length bytes) bytes ≡ Err fault → IfErr (image_in bytes) (λ e. ⊥) → ⊥
+unfolding image_in
+known_read bytes fault e h =
+    let whole : (fields_at (length bytes) bytes >>= λ g. cond (is_canonical g) (Ok (node_in g)) (Err NotCanonical)) ≡ Err fault = rw e refl in
+    subst (λ (r : Result Node ThawFault). IfErr r (λ e. ⊥)) whole h
+
+-- and these are canonical
+pub known_canonical : (bytes : List ℕ) (f : Fields) → fields_at (length bytes) bytes ≡ Ok f → IfErr (image_in bytes) (λ e. ⊥) → is_canonical f ≡ false → ⊥
+unfolding image_in
+known_canonical bytes f e h none =
+    let whole : (fields_at (length bytes) bytes >>= λ g. cond (is_canonical g) (Ok (node_in g)) (Err NotCanonical)) ≡ Err NotCanonical = rw (e, none) refl in
+    subst (λ (r : Result Node ThawFault). IfErr r (λ e. ⊥)) whole h

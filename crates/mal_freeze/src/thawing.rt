@@ -32,11 +32,15 @@ pub fn thaw_known(alloc: Global, bytes: &[u8]) -> Result<Image, AllocError>
     ensures { IfOk result (λ i. image_in bytes.now ≡ Ok i) }
 {
     let fields = match reading::fields(alloc, bytes) {
-        Err(_) => return Err(AllocError),
         Ok(fields) => fields,
+        Err(ThawFault::OutOfMemory) => return Err(AllocError),
+        Err(ThawFault::BadMagic) => unreachable!(),
+        Err(ThawFault::Truncated) => unreachable!(),
+        Err(ThawFault::BadField { .. }) => unreachable!(),
+        Err(ThawFault::NotCanonical) => unreachable!(),
     };
     match parts_of(alloc, fields)? {
-        None => Err(AllocError),
+        None => unreachable!(),
         Some(parts) => Ok(Image::of_form(parts)),
     }
 }
