@@ -106,6 +106,14 @@ pub apart-out : (k v : ℕ) (xs ys : List ℕ) → IsApart k (xs ++ v ∷ ys) �
 apart-out k v [] ys h = h.1
 apart-out k v (x ∷ xs) ys h = (h.0, apart-out k v xs ys h.1)
 
+apart-in : (k v : ℕ) (xs ys : List ℕ) → v ≢ k → IsApart k (xs ++ ys) → IsApart k (xs ++ v ∷ ys)
+apart-in k v [] ys d h = (d, h)
+apart-in k v (x ∷ xs) ys d h = (h.0, apart-in k v xs ys d h.1)
+
+apart-front : (k : ℕ) (xs ys : List ℕ) → IsApart k (xs ++ ys) → IsApart k xs
+apart-front k [] ys h = tt
+apart-front k (x ∷ xs) ys h = (h.0, apart-front k xs ys h.1)
+
 once-out : (v : ℕ) (xs ys : List ℕ) → AreOnce (xs ++ v ∷ ys) → AreOnce (v ∷ (xs ++ ys))
 once-out v [] ys h = h
 once-out v (x ∷ xs) ys h =
@@ -174,6 +182,7 @@ pub record IsTaken (after before : Linked) (v : ℕ) (list : List ℕ) : Type 0 
   pub leads : Leads (set after.numbers (link before.numbers v) (link after.numbers v)) (set before.numbers (link after.numbers v) (link before.numbers v)) 0 (without v list) 0
   pub once : AreOnce (moved v list)
   pub placed : ArePlaced (length after.numbers) (moved v list)
+  pub others : (k : ℕ) → k ≢ 0 → IsApart k (moved v list) → link (set after.numbers (link before.numbers v) (link after.numbers v)) k ≡ 0
   pub long : length (moved v list) ≡ length list
 
 pub ring-taken : (after before : Linked) (v s : ℕ) (list : List ℕ) → IsRing after before list s → list_any (λ w. w == v) list ≡ true → IsTaken after before v list
@@ -196,6 +205,10 @@ ring-taken after before v s list r h =
       leads = rw k.2.rest (taken after.numbers before.numbers 0 v 0 xs ys la lb w r.same (z, o) z l);
       once = rw k.2.rest (once-out v xs ys o);
       placed = rw k.2.rest out;
+      others = λ n d a.
+          let apart : IsApart n (xs ++ v ∷ ys) = apart-in n v xs ys a.0 (rw k.2.rest at a.1) in
+          let left : n ≢ link before.numbers v = flip (link before.numbers v) n (left-apart after.numbers before.numbers 0 v 0 n xs ys l (flip n 0 d, apart)) in
+          get_or-set_other after.numbers (link before.numbers v) n (link after.numbers v) 0 left ∙ r.others n d (rw k.2.whole apart);
       long = ap (λ (ws : List ℕ). length (v ∷ ws)) k.2.rest ∙ (length-out v xs ys ∙ sym (ap (λ (ws : List ℕ). length ws) k.2.whole));
     }
 
@@ -226,6 +239,7 @@ pub record IsEnded (after before : Linked) (v : ℕ) (list : List ℕ) : Type 0 
   pub leads : Leads (set (set after.numbers (link before.numbers 0) v) v 0) (set (set before.numbers v (link before.numbers 0)) 0 v) 0 (list ++ v ∷ []) 0
   pub once : AreOnce (list ++ v ∷ [])
   pub placed : ArePlaced (length after.numbers) (list ++ v ∷ [])
+  pub others : (k : ℕ) → k ≢ 0 → IsApart k (list ++ v ∷ []) → link (set (set after.numbers (link before.numbers 0) v) v 0) k ≡ 0
 
 pub ring-ended : (after before : Linked) (v s : ℕ) (list : List ℕ) → IsRing after before list s → 1 ≤ v → v < length after.numbers → IsApart v list → IsEnded after before v list
 ring-ended after before v s list r some here p =
@@ -238,6 +252,10 @@ ring-ended after before v s list r some here p =
       leads = ended after.numbers before.numbers 0 v 0 list la here (rw r.same here) lb r.placed vz (flip v 0 vz, p) z (z, r.once) r.leads;
       once = once-back v list r.once p;
       placed = placed-back (length after.numbers) v list r.placed some here;
+      others = λ k n a.
+          let apart : IsApart k list = apart-front k list (v ∷ []) a in
+          let behind : k ≢ link before.numbers 0 = flip (link before.numbers 0) k (last-apart after.numbers before.numbers 0 0 k list r.leads (flip k 0 n, apart)) in
+          get_or-set_other (set after.numbers (link before.numbers 0) v) v k 0 0 (flip v k (apart-at k v list [] a)) ∙ (get_or-set_other after.numbers (link before.numbers 0) k v 0 behind ∙ r.others k n apart);
     }
 
 -- what stands behind a number of a ring
@@ -246,8 +264,13 @@ next-leads after before a z n [] p h w l = absurd (omega (arith, l))
 next-leads after before a z n (v ∷ vs) zero h w l = (h.0, w.0, w.1)
 next-leads after before a z n (v ∷ vs) (suc p) h w l = next-leads after before v z n vs p h.2 w.2 (omega (arith, l))
 
+-- and behind the last one
+pub next-last : (after before : List ℕ) (a z : ℕ) (vs : List ℕ) → Leads after before a vs z → link after (get_or (a ∷ vs) (length vs) 0) ≡ z
+next-last after before a z [] h = h.0
+next-last after before a z (v ∷ vs) h = next-last after before v z vs h.2
+
 -- more places, with the number 0, leave a way as it is
-link-more : (xs : List ℕ) (n k : ℕ) → link (xs ++ replicate n 0) k ≡ link xs k
+pub link-more : (xs : List ℕ) (n k : ℕ) → link (xs ++ replicate n 0) k ≡ link xs k
 link-more [] zero k = refl
 link-more [] (suc n) zero = refl
 link-more [] (suc n) (suc k) = link-more [] n k

@@ -45,12 +45,13 @@ pub record IsTurned (list : List ℕ) : Type 0 where
   pub once : AreOnce list
   pub placed : ArePlaced (length list + 1) list
 
--- the links lead from the place 0 over these numbers back to it, each number stands once and has a place, and for so
--- many more places there is room
+-- the links lead from the place 0 over these numbers back to it, each number stands once and has a place, those that do
+-- not stand there lead to 0, and for so many more places there is room
 pub record IsRing (after before : Linked) (list : List ℕ) (spare : ℕ) : Type 0 where
   pub leads : Leads after.numbers before.numbers 0 list 0
   pub once : AreOnce list
   pub placed : ArePlaced (length after.numbers) list
+  pub others : (k : ℕ) → k ≢ 0 → IsApart k list → link after.numbers k ≡ 0
   pub same : length before.numbers ≡ length after.numbers
   pub some : 1 ≤ length after.numbers
   pub room_after : spare ≤ after.room

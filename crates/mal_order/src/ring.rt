@@ -1,6 +1,6 @@
 //! A ring of numbers, linked in both directions.
 
-ghost use Rattle.std.specs.Prelude.{◌≡◌, ◌==◌, ℕ, ◌+◌, ◌≤◌, ◌<◌, true, length, [], ◌∷◌, ◌++◌, get_or, set, OnOk};
+ghost use Rattle.std.specs.Prelude.{◌≡◌, ◌≢◌, ◌==◌, ℕ, ◌+◌, ◌≤◌, ◌<◌, true, length, [], ◌∷◌, ◌++◌, get_or, set, OnOk};
 ghost use Rattle.std.specs.List.{list_any};
 ghost use Rattle.spec_learn.specs.Order.{moved};
 ghost use Rattle.mal_order.specs.Rings.{IsApart};
@@ -118,10 +118,12 @@ impl Ring {
         tie(&mut self.after, &mut self.before, 0, number);
     }
 
-    /// The number behind the one at this place, or the first behind 0.
+    /// The number behind this one, or the first behind 0: 0 behind the last, and where the number is not in the ring.
     pub fn next(&self, number: u32) -> u32
-        ensures { (p : ℕ) → number ≡ get_or (0 ∷ self.now.list) p 0 → p < length self.now.list
+        ensures within { (p : ℕ) → number ≡ get_or (0 ∷ self.now.list) p 0 → p < length self.now.list
             → (result ≡ get_or self.now.list p 0) × (1 ≤ result) × (result < self.now.places) }
+        ensures last { number ≡ get_or (0 ∷ self.now.list) (length self.now.list) 0 → result ≡ 0 }
+        ensures others { number ≢ 0 → IsApart number self.now.list → result ≡ 0 }
     {
         self.after.get(number)
     }

@@ -7,7 +7,7 @@ loop-place-preserved c =
     let inv = c.loop-place.invariant in
     let list = c.self.inside.ring.list in
     let low : c.loop-place._place < length list = omega arith in
-    let next = c.next-mark.ensures c.loop-place._place inv.mark low in
+    let next = c.next-mark.ensures.within c.loop-place._place inv.mark low in
     let one : c.loop-place._place + 1 ≡ suc c.loop-place._place = omega arith in
     record {
       items = rw (c.push_reserved.ensures.items, inv.items, c.of.ensures, next.0) (sym (take_more list c.loop-place._place 0 low));

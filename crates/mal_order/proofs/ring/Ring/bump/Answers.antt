@@ -1,5 +1,5 @@
 use Rattle.std.proofs.Common.{◌≡◌, ℕ, length, set, refl, ap, ◌∙◌, sym, subst, arith}
-use Rattle.std.proofs.lemmas.List.{length-set}
+use Rattle.std.proofs.lemmas.List.{length-set, get_or-set_other}
 use Rattle.spec_learn.specs.Order.{moved}
 use Rattle.mal_order.specs.Rings.{link, walk, Leads, ArePlaced}
 use Rattle.mal_order.proofs.RingLemmas.{ring-taken, ring-bumped, leads-same, walk-leads, length-walk}
@@ -71,6 +71,9 @@ invariant_of-self c =
       leads = leads c;
       once = t.once;
       placed = subst (λ (n : ℕ). ArePlaced n (moved c.args.number (walk r.after.numbers 0 r.count))) (sym after) t.placed;
+      others = λ k n a.
+          let one : link c.tie.new.after.numbers k ≡ 0 = rw (c.tie.ensures.after, c.get-left.ensures, c.get-right.ensures) (t.others k n a) in
+          rw (c.tie-3.ensures.after, c.tie-2.ensures.after) (get_or-set_other _ 0 k c.args.number 0 n ∙ (get_or-set_other c.tie.new.after.numbers c.args.number k c.get-first.result 0 (λ q. a.0 (sym q)) ∙ one));
       same = before ∙ (c.self.invariant.same ∙ sym after);
       some = rw after c.self.invariant.some;
       room_after = omega (arith, c.tie-3.ensures.room_after, c.tie-2.ensures.room_after, c.tie.ensures.room_after, c.self.invariant.room_after);

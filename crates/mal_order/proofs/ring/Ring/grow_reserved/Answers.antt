@@ -1,7 +1,7 @@
 use Rattle.std.proofs.Common.{◌≡◌, ◌≤◌, ◌+◌, ℕ, length, refl, ap, ◌∙◌, sym, arith}
 use Rattle.std.proofs.lemmas.List.{length-append, length-replicate}
 use Rattle.mal_order.specs.Rings.{walk, Leads}
-use Rattle.mal_order.proofs.RingLemmas.{leads-more, walk-leads, length-walk, placed-more, placed-apart}
+use Rattle.mal_order.proofs.RingLemmas.{leads-more, link-more, walk-leads, length-walk, placed-more, placed-apart}
 use Rattle.mal_order.proofs.ring.Ring.grow_reserved.Goals as goal
 
 pub invariant_of-self : goal.invariant_of-self
@@ -17,6 +17,7 @@ invariant_of-self c =
       leads = leads;
       once = inv.once;
       placed = placed-more (length r.after.numbers) (length c.grow_reserved.new.self.numbers) list (omega (arith, after)) inv.placed;
+      others = λ k n a. rw c.grow_reserved.ensures.numbers (link-more r.after.numbers c.args.n k ∙ inv.others k n a);
       same = omega (arith, before, after, inv.same);
       some = omega (arith, after, inv.some);
       room_after = omega (arith, c.grow_reserved.ensures.room, inv.room_after);

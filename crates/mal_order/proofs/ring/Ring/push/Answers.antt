@@ -41,6 +41,7 @@ invariant_of-self c =
       leads = leads c;
       once = t.once;
       placed = rw after t.placed;
+      others = λ k n a. rw (c.tie-2.ensures.after, c.tie.ensures.after, c.get-last.ensures) (t.others k n a);
       same = before ∙ (c.self.invariant.same ∙ sym after);
       some = rw after c.self.invariant.some;
       room_after = omega (arith, c.tie-2.ensures.room_after, c.tie.ensures.room_after, c.self.invariant.room_after);
