@@ -1,11 +1,12 @@
-use Rattle.std.proofs.Common.{◌≡◌, ℕ, zero, suc, ◌+◌, ◌<◌, ◌≤◌, ◌↔◌, ◌⊎◌, inl, inr, Bool, true, false, cond, eqb, List, [], ◌∷◌, ◌++◌, length, drop, set, get_or, Option, Some, None, refl, sym, ap, subst, ◌∙◌, arith}
+use Rattle.std.proofs.Common.{◌≡◌, ◌≢◌, ℕ, zero, suc, ◌+◌, ◌<◌, ◌≤◌, ◌↔◌, ◌⊎◌, inl, inr, Bool, true, false, cond, eqb, List, [], ◌∷◌, ◌++◌, length, set, get_or, Option, Some, None, refl, sym, ap, subst, ◌∙◌, append_assoc, arith}
+use Rattle.std.specs.Prelude.{option_to_list}
 use Rattle.std.proofs.lemmas.Bool.{eqb-true, eqb-false, eq-eqb, ne_eqb, cases_eq}
 use Rattle.std.proofs.lemmas.List.{length-set, length_push, get_or-set_same, get_or-set_other, get_or_append_left, get_or_push, get_or_past}
-use Rattle.mal_watch.specs.WatchLists.{Has, AreOnce, IsAt, link_at, list_from, IsList, AreLinked}
+use Rattle.mal_watch.specs.WatchLists.{Has, AreOnce, IsAt, link_at, list_from, IsList, AreLinked, IsWalk}
 use Rattle.mal_watch.proofs.HasLemmas.{has-none, has-head, has-tail, has-cases, has-other, long-below}
 
-some_one : (x y : ℕ) → Some x ≡ Some y → x ≡ y
-some_one x y e = cc
+none_some : (x : ℕ) → ◌≡◌ {A = Option ℕ} None (Some x) → ⊥
+none_some x e = cc
 
 -- watches that are linked are those that the links lead to
 pub list_from-is : (links : List (Option ℕ)) (n : ℕ) (from : Option ℕ) (ks : List ℕ) → IsList links from ks → length ks ≤ n → list_from links n from ≡ ks
@@ -40,37 +41,30 @@ list_from-push links to from (k ∷ ks) h =
     let inside : k < length (links ++ to ∷ []) = omega (arith, h.1, length_push links to) in
     (h.0, inside, rw same (list_from-push links to (link_at links k) ks h.2))
 
--- what is in the lists, and the watches that are out
-pub record Linked (heads links : List (Option ℕ)) (keys : List ℕ) (taken : Option ℕ) (lists : ℕ → List ℕ) (out : List ℕ) : Type 0 where
+-- from none on there is none
+pub from-none : (links : List (Option ℕ)) (n : ℕ) → list_from links n None ≡ []
+from-none links zero = refl
+from-none links (suc n) = refl
+
+-- what is in the lists
+pub record Linked (heads links : List (Option ℕ)) (keys : List ℕ) (lists : ℕ → List ℕ) : Type 0 where
   pub linked : (key : ℕ) → IsList links (link_at heads key) (lists key)
-  pub out_linked : IsList links taken out
   pub home : (key k : ℕ) → Has (lists key) k → get_or keys k 0 ≡ key
-  pub apart : (key k : ℕ) → Has (lists key) k → Has out k → ⊥
-  pub each : (k : ℕ) → k < length links → Has (lists (get_or keys k 0)) k ⊎ Has out k
+  pub each : (k : ℕ) → k < length links → Has (lists (get_or keys k 0)) k
   pub once : (key : ℕ) → AreOnce (lists key)
-  pub out_once : AreOnce out
   pub long : length keys ≡ length links
 
-pub to-linked : (heads links : List (Option ℕ)) (keys : List ℕ) (taken : Option ℕ) (c : AreLinked heads links keys taken) → Linked heads links keys taken c.lists (list_from links (length links) taken)
-to-linked heads links keys taken c = record { linked = c.linked; out_linked = c.out; home = c.home; apart = c.apart; each = c.each; once = c.once; out_once = c.out_once; long = c.long }
+to-linked : (heads links : List (Option ℕ)) (keys : List ℕ) (c : AreLinked heads links keys) → Linked heads links keys c.lists
+to-linked heads links keys c = record { linked = c.linked; home = c.home; each = c.each; once = c.once; long = c.long }
 
-pub out-is : (heads links : List (Option ℕ)) (keys : List ℕ) (taken : Option ℕ) (lists : ℕ → List ℕ) (out : List ℕ) → Linked heads links keys taken lists out → list_from links (length links) taken ≡ out
-out-is heads links keys taken lists out c = list_from-is links (length links) taken out c.out_linked (long-below (length links) out c.out_once (λ k m. list_from-below links taken out k c.out_linked m))
+from-linked : (heads links : List (Option ℕ)) (keys : List ℕ) (lists : ℕ → List ℕ) → Linked heads links keys lists → AreLinked heads links keys
+from-linked heads links keys lists c = record { lists = lists; linked = c.linked; home = c.home; each = c.each; once = c.once; long = c.long }
 
-pub from-linked : (heads links : List (Option ℕ)) (keys : List ℕ) (taken : Option ℕ) (lists : ℕ → List ℕ) (out : List ℕ) → Linked heads links keys taken lists out → AreLinked heads links keys taken
-from-linked heads links keys taken lists out c =
-    let is : list_from links (length links) taken ≡ out = out-is heads links keys taken lists out c in
-    record {
-      lists = lists;
-      linked = c.linked;
-      out = rw is c.out_linked;
-      home = c.home;
-      apart = rw is c.apart;
-      each = rw is c.each;
-      once = c.once;
-      out_once = rw is c.out_once;
-      long = c.long;
-    }
+once-is : (links : List (Option ℕ)) (from : Option ℕ) (ks : List ℕ) → IsList links from ks → AreOnce ks → list_from links (length links) from ≡ ks
+once-is links from ks h o = list_from-is links (length links) from ks h (long-below (length links) ks o (λ k m. list_from-below links from ks k h m))
+
+list-is : (heads links : List (Option ℕ)) (keys : List ℕ) (lists : ℕ → List ℕ) → Linked heads links keys lists → (key : ℕ) → list_from links (length links) (link_at heads key) ≡ lists key
+list-is heads links keys lists c key = once-is links (link_at heads key) (lists key) (c.linked key) (c.once key)
 
 -- the lists with a watch in front of that of a literal
 pub put_in : (ℕ → List ℕ) → ℕ → ℕ → ℕ → List ℕ
@@ -123,8 +117,8 @@ put-linked heads links lists key n l m e h i = by_key (eqb i key) refl
         rw there (h i)
 
 -- a watch more, in the list of a literal
-pub add-linked : (heads links : List (Option ℕ)) (keys : List ℕ) (taken : Option ℕ) (lists : ℕ → List ℕ) (out : List ℕ) (key : ℕ) → key < length heads → Linked heads links keys taken lists out → Linked (set heads key (Some (length links))) (links ++ link_at heads key ∷ []) (keys ++ key ∷ []) taken (put_in lists key (length links)) out
-add-linked heads links keys taken lists out key l c =
+add-linked : (heads links : List (Option ℕ)) (keys : List ℕ) (lists : ℕ → List ℕ) (key : ℕ) → key < length heads → Linked heads links keys lists → Linked (set heads key (Some (length links))) (links ++ link_at heads key ∷ []) (keys ++ key ∷ []) (put_in lists key (length links))
+add-linked heads links keys lists key l c =
     let n = length links in
     let more = links ++ link_at heads key ∷ [] in
     let longer : length more ≡ n + 1 = length_push links (link_at heads key) in
@@ -132,189 +126,331 @@ add-linked heads links keys taken lists out key l c =
     let new_key : get_or (keys ++ key ∷ []) n 0 ≡ key = get_or_push keys key 0 n c.long in
     let old_key : (k : ℕ) → k < n → get_or (keys ++ key ∷ []) k 0 ≡ get_or keys k 0 = λ k h. get_or_append_left keys (key ∷ []) 0 k (omega (arith, h, c.long)) in
     let in_list : (i k : ℕ) → Has (lists i) k → k < n = λ i k h. list_from-below links (link_at heads i) (lists i) k (c.linked i) h in
-    let in_out : (k : ℕ) → Has out k → k < n = λ k h. list_from-below links taken out k c.out_linked h in
     record {
       linked = put-linked heads more lists key n l (omega arith) last (λ i. list_from-push links (link_at heads key) (link_at heads i) (lists i) (c.linked i));
-      out_linked = list_from-push links (link_at heads key) taken out c.out_linked;
       home = λ i k h. elim (put-from lists key n i k h) [
         | inl p ↦ rw p.0 (new_key ∙ sym p.1)
         | inr r ↦ old_key k (in_list i k r) ∙ c.home i k r
       ];
-      apart = λ i k h o. elim (put-from lists key n i k h) [
-        | inl p ↦ let same : k ≡ n = p.0 in let below : k < n = in_out k o in absurd (omega arith)
-        | inr r ↦ c.apart i k r o
-      ];
       each = λ k h. elim (cases_eq k n) [
-        | inl e ↦ rw e (rw new_key (inl (put-new lists key n)))
+        | inl e ↦ rw e (rw new_key (put-new lists key n))
         | inr d ↦
             let below : k < n = omega (arith, h, longer, d) in
-            elim (c.each k below) [
-              | inl m ↦ rw (old_key k below) (inl (put-old lists key n (get_or keys k 0) k m))
-              | inr o ↦ inr o
-            ]
+            rw (old_key k below) (put-old lists key n (get_or keys k 0) k (c.each k below))
       ];
       once = λ i. put-once lists key n i (λ m. let below : n < n = in_list i n m in omega arith) (c.once i);
-      out_once = c.out_once;
       long = omega (arith, length_push keys key, longer, c.long);
     }
 
--- the first watch that is out, put into the list of a literal
-pub put-back : (heads links : List (Option ℕ)) (keys : List ℕ) (taken : Option ℕ) (lists : ℕ → List ℕ) (rest : List ℕ) (n key : ℕ) → key < length heads → Linked heads links keys taken lists (n ∷ rest) → Linked (set heads key (Some n)) (set links n (link_at heads key)) (set keys n key) (link_at links n) (put_in lists key n) rest
-put-back heads links keys taken lists rest n key l c =
-    let to = link_at heads key in
-    let inside : n < length links = c.out_linked.1 in
-    let longer : length (set links n to) ≡ length links = length-set links n to in
-    let last : link_at (set links n to) n ≡ to = get_or-set_same links n to None inside in
-    let new_key : get_or (set keys n key) n 0 ≡ key = get_or-set_same keys n key 0 (omega (arith, inside, c.long)) in
-    let old_key : (k : ℕ) → (k ≡ n → ⊥) → get_or (set keys n key) k 0 ≡ get_or keys k 0 = λ k h. get_or-set_other keys n k key 0 h in
-    let loose : (i : ℕ) → Has (lists i) n → ⊥ = λ i m. c.apart i n m (has-head n n rest refl) in
-    let differs : (i k : ℕ) → Has (lists i) k → k ≡ n → ⊥ = λ i k m e. loose i (rw e at m) in
+-- a list with a watch in the middle, and without it
+has-front : (k : ℕ) (xs ys : List ℕ) → Has xs k → Has (xs ++ ys) k
+has-front k [] ys h = absurd (has-none k h)
+has-front k (x ∷ xs) ys h = elim (has-cases k x xs h) [
+  | inl e ↦ has-head k x (xs ++ ys) e
+  | inr m ↦ has-tail k x (xs ++ ys) (has-front k xs ys m)
+]
+
+has-middle : (w : ℕ) (xs ys : List ℕ) → Has (xs ++ w ∷ ys) w
+has-middle w [] ys = has-head w w ys refl
+has-middle w (x ∷ xs) ys = has-tail w x (xs ++ w ∷ ys) (has-middle w xs ys)
+
+has-with : (k w : ℕ) (xs ys : List ℕ) → Has (xs ++ ys) k → Has (xs ++ w ∷ ys) k
+has-with k w [] ys h = has-tail k w ys h
+has-with k w (x ∷ xs) ys h = elim (has-cases k x (xs ++ ys) h) [
+  | inl e ↦ has-head k x (xs ++ w ∷ ys) e
+  | inr m ↦ has-tail k x (xs ++ w ∷ ys) (has-with k w xs ys m)
+]
+
+has-without : (k w : ℕ) (xs ys : List ℕ) → (k ≡ w → ⊥) → Has (xs ++ w ∷ ys) k → Has (xs ++ ys) k
+has-without k w [] ys d h = has-other k w ys d h
+has-without k w (x ∷ xs) ys d h = elim (has-cases k x (xs ++ w ∷ ys) h) [
+  | inl e ↦ has-head k x (xs ++ ys) e
+  | inr m ↦ has-tail k x (xs ++ ys) (has-without k w xs ys d m)
+]
+
+once-without : (w : ℕ) (xs ys : List ℕ) → AreOnce (xs ++ w ∷ ys) → AreOnce (xs ++ ys) × (Has (xs ++ ys) w → ⊥)
+once-without w [] ys o = (o.1, o.0)
+once-without w (x ∷ xs) ys o =
+    let r = once-without w xs ys o.1 in (
+      ((λ m. o.0 (has-with x w xs ys m)), r.0),
+      λ m. elim (has-cases w x (xs ++ ys) m) [
+        | inl e ↦ o.0 (subst (λ (k : ℕ). Has (xs ++ w ∷ ys) k) e (has-middle w xs ys))
+        | inr n ↦ r.1 n
+      ],
+    )
+
+-- the lists with another for a literal
+with_list : (ℕ → List ℕ) → ℕ → List ℕ → ℕ → List ℕ
+with_list lists key now i = cond (eqb i key) now (lists i)
+
+with-here : (lists : ℕ → List ℕ) (key : ℕ) (now : List ℕ) → with_list lists key now key ≡ now
+unfolding with_list
+with-here lists key now = let e : eqb key key ≡ true = eq-eqb key key refl in rw e refl
+
+with-other : (lists : ℕ → List ℕ) (key : ℕ) (now : List ℕ) (i : ℕ) → (i ≡ key → ⊥) → with_list lists key now i ≡ lists i
+unfolding with_list
+with-other lists key now i d = let e : eqb i key ≡ false = ne_eqb i key d in rw e refl
+
+-- a watch that is in no list, and the lists of all others; of one literal these are its list, and from a link on along
+-- the links these
+record IsApart (heads links : List (Option ℕ)) (keys : List ℕ) (w key : ℕ) (xs ys : List ℕ) (next : Option ℕ) (lists : ℕ → List ℕ) : Type 0 where
+  inside : w < length links
+  linked : (i : ℕ) → IsList links (link_at heads i) (lists i)
+  apart : (i : ℕ) → Has (lists i) w → ⊥
+  home : (i k : ℕ) → Has (lists i) k → get_or keys k 0 ≡ i
+  each : (k : ℕ) → k < length links → (k ≡ w → ⊥) → Has (lists (get_or keys k 0)) k
+  once : (i : ℕ) → AreOnce (lists i)
+  long : length keys ≡ length links
+  list : lists key ≡ xs ++ ys
+  rest : IsList links next ys
+
+-- the links lead past a watch
+cut : (heads links now nexts : List (Option ℕ)) (keys : List ℕ) (lists : ℕ → List ℕ) (w key : ℕ) (xs ys : List ℕ) → Linked heads links keys lists → lists key ≡ xs ++ w ∷ ys → length nexts ≡ length links → ((i : ℕ) → (i ≡ key → ⊥) → IsList nexts (link_at now i) (lists i)) → IsList nexts (link_at now key) (xs ++ ys) → IsList nexts (link_at links w) ys → IsApart now nexts keys w key xs ys (link_at links w) (with_list lists key (xs ++ ys))
+cut heads links now nexts keys lists w key xs ys c e n others here rest =
+    let less = with_list lists key (xs ++ ys) in
+    let is : less key ≡ xs ++ ys = with-here lists key (xs ++ ys) in
+    let same : (i : ℕ) → (i ≡ key → ⊥) → less i ≡ lists i = λ i d. with-other lists key (xs ++ ys) i d in
+    let was : Has (lists key) w = rw e (has-middle w xs ys) in
+    let once = once-without w xs ys (rw e at (c.once key)) in
     record {
-      linked = put-linked heads (set links n to) lists key n l (omega (arith, inside, longer)) last (λ i. list_from-set links n to (link_at heads i) (lists i) (loose i) (c.linked i));
-      out_linked = list_from-set links n to (link_at links n) rest c.out_once.0 c.out_linked.2;
-      home = λ i k h. elim (put-from lists key n i k h) [
+      inside = rw n (list_from-below links (link_at heads key) (lists key) w (c.linked key) was);
+      linked = λ i. elim (cases_eq i key) [
+        | inl s ↦ rw (s, is) here
+        | inr d ↦ rw (same i d) (others i d)
+      ];
+      apart = λ i m. elim (cases_eq i key) [
+        | inl s ↦ once.1 (rw (s, is) at m)
+        | inr d ↦ d (sym (c.home i w (rw (same i d) at m)) ∙ c.home key w was)
+      ];
+      home = λ i k m. elim (cases_eq i key) [
+        | inl s ↦ rw s (c.home key k (rw e (has-with k w xs ys (rw (s, is) at m))))
+        | inr d ↦ c.home i k (rw (same i d) at m)
+      ];
+      each = λ k l d. elim (cases_eq (get_or keys k 0) key) [
+        | inl s ↦ rw (s, is) (has-without k w xs ys d (rw (s, e) at (c.each k (omega (arith, l, n)))))
+        | inr o ↦ rw (same (get_or keys k 0) o) (c.each k (omega (arith, l, n)))
+      ];
+      once = λ i. elim (cases_eq i key) [
+        | inl s ↦ rw (s, is) once.0
+        | inr d ↦ rw (same i d) (c.once i)
+      ];
+      long = omega (arith, c.long, n);
+      list = is;
+      rest = rest;
+    }
+
+-- past the watch behind another
+list-past : (links : List (Option ℕ)) (l w : ℕ) (from : Option ℕ) (xs ys : List ℕ) → AreOnce ((xs ++ l ∷ []) ++ w ∷ ys) → IsList links from ((xs ++ l ∷ []) ++ w ∷ ys) → IsList (set links l (link_at links w)) from ((xs ++ l ∷ []) ++ ys) × IsList (set links l (link_at links w)) (link_at links w) ys
+list-past links l w from [] ys o h =
+    let next = link_at links w in
+    let to : link_at (set links l next) l ≡ next = get_or-set_same links l next None h.1 in
+    let inside : l < length (set links l next) = rw (length-set links l next) h.1 in
+    let rest : IsList (set links l next) next ys = list_from-set links l next next ys (λ m. o.0 (has-tail l w ys m)) h.2.2 in
+    ((h.0, inside, rw to rest), rest)
+list-past links l w from (x ∷ xs) ys o h =
+    let next = link_at links w in
+    let other : x ≡ l → ⊥ = λ e. o.0 (subst (λ (k : ℕ). Has ((xs ++ l ∷ []) ++ w ∷ ys) k) (sym e) (has-front l (xs ++ l ∷ []) (w ∷ ys) (has-middle l xs []))) in
+    let same : link_at (set links l next) x ≡ link_at links x = get_or-set_other links l x next None other in
+    let inside : x < length (set links l next) = rw (length-set links l next) h.1 in
+    let r = list-past links l w (link_at links x) xs ys o.1 h.2 in
+    ((h.0, inside, rw same r.0), r.1)
+
+-- the heads and the links where a list leads past the watch behind the last that stayed, or past the first
+abbrev pub heads_past : List (Option ℕ) → ℕ → Option ℕ → Option ℕ → List (Option ℕ)
+heads_past heads key None next = set heads key next
+heads_past heads key (Some l) next = heads
+
+abbrev pub links_past : List (Option ℕ) → Option ℕ → Option ℕ → List (Option ℕ)
+links_past links None next = links
+links_past links (Some l) next = set links l next
+
+pub heads-past-length : (heads : List (Option ℕ)) (key : ℕ) (last next : Option ℕ) → length (heads_past heads key last next) ≡ length heads
+heads-past-length heads key None next = length-set heads key next
+heads-past-length heads key (Some l) next = refl
+
+past : (heads links : List (Option ℕ)) (keys : List ℕ) (lists : ℕ → List ℕ) (w key : ℕ) (before : List ℕ) (last : Option ℕ) (ys : List ℕ) → key < length heads → (last ≡ None → before ≡ []) → Linked heads links keys lists → lists key ≡ (before ++ option_to_list last) ++ w ∷ ys → IsApart (heads_past heads key last (link_at links w)) (links_past links last (link_at links w)) keys w key (before ++ option_to_list last) ys (link_at links w) (with_list lists key ((before ++ option_to_list last) ++ ys))
+past heads links keys lists w key before None ys l none c e =
+    let next = link_at links w in
+    let first : lists key ≡ w ∷ ys = e ∙ ap (λ (xs : List ℕ). (xs ++ []) ++ w ∷ ys) (none refl) in
+    let list : IsList links (link_at heads key) (w ∷ ys) = rw first at (c.linked key) in
+    let now : link_at (set heads key next) key ≡ next = get_or-set_same heads key next None l in
+    cut heads links (set heads key next) links keys lists w key (before ++ []) ys c e refl (λ i d. rw (get_or-set_other heads key i next None d) (c.linked i)) (rw (now, none refl) list.2) list.2
+past heads links keys lists w key before (Some l) ys inside none c e =
+    let next = link_at links w in
+    let was : Has (lists key) l = rw e (has-front l (before ++ l ∷ []) (w ∷ ys) (has-middle l before [])) in
+    let now = list-past links l w (link_at heads key) before ys (rw e at (c.once key)) (rw e at (c.linked key)) in
+    cut heads links heads (set links l next) keys lists w key (before ++ l ∷ []) ys c e (length-set links l next) (λ i d. list_from-set links l next (link_at heads i) (lists i) (λ m. d (sym (c.home i l m) ∙ c.home key l was)) (c.linked i)) now.0 now.1
+
+-- a watch that is in no list goes into that of a literal
+put-apart : (heads links : List (Option ℕ)) (keys : List ℕ) (w key walked : ℕ) (xs ys : List ℕ) (next : Option ℕ) (lists : ℕ → List ℕ) → key < length heads → IsApart heads links keys w walked xs ys next lists → Linked (set heads key (Some w)) (set links w (link_at heads key)) (set keys w key) (put_in lists key w)
+put-apart heads links keys w key walked xs ys next lists l c =
+    let to = link_at heads key in
+    let longer : length (set links w to) ≡ length links = length-set links w to in
+    let last : link_at (set links w to) w ≡ to = get_or-set_same links w to None c.inside in
+    let new_key : get_or (set keys w key) w 0 ≡ key = get_or-set_same keys w key 0 (omega (arith, c.inside, c.long)) in
+    let old_key : (k : ℕ) → (k ≡ w → ⊥) → get_or (set keys w key) k 0 ≡ get_or keys k 0 = λ k h. get_or-set_other keys w k key 0 h in
+    let differs : (i k : ℕ) → Has (lists i) k → k ≡ w → ⊥ = λ i k m e. c.apart i (rw e at m) in
+    record {
+      linked = put-linked heads (set links w to) lists key w l (omega (arith, c.inside, longer)) last (λ i. list_from-set links w to (link_at heads i) (lists i) (c.apart i) (c.linked i));
+      home = λ i k h. elim (put-from lists key w i k h) [
         | inl p ↦ rw p.0 (new_key ∙ sym p.1)
         | inr r ↦ old_key k (differs i k r) ∙ c.home i k r
       ];
-      apart = λ i k h o. elim (put-from lists key n i k h) [
-        | inl p ↦ c.out_once.0 (rw p.0 at o)
-        | inr r ↦ c.apart i k r (has-tail k n rest o)
+      each = λ k h. elim (cases_eq k w) [
+        | inl e ↦ rw e (rw new_key (put-new lists key w))
+        | inr d ↦ rw (old_key k d) (put-old lists key w (get_or keys k 0) k (c.each k (omega (arith, h, longer)) d))
       ];
-      each = λ k h. elim (cases_eq k n) [
-        | inl e ↦ rw e (rw new_key (inl (put-new lists key n)))
-        | inr d ↦
-            elim (c.each k (omega (arith, h, longer))) [
-              | inl m ↦ rw (old_key k d) (inl (put-old lists key n (get_or keys k 0) k m))
-              | inr o ↦ inr (has-other k n rest d o)
-            ]
-      ];
-      once = λ i. put-once lists key n i (loose i) (c.once i);
-      out_once = c.out_once.1;
-      long = length-set keys n key ∙ (c.long ∙ sym longer);
+      once = λ i. put-once lists key w i (c.apart i) (c.once i);
+      long = length-set keys w key ∙ (c.long ∙ sym longer);
     }
 
--- the lists without that of a literal
-pub left_of : (ℕ → List ℕ) → ℕ → ℕ → List ℕ
-left_of lists key i = cond (eqb i key) [] (lists i)
+put-other : (lists : ℕ → List ℕ) (key n i : ℕ) → (i ≡ key → ⊥) → put_in lists key n i ≡ lists i
+unfolding put_in
+put-other lists key n i d = let e : eqb i key ≡ false = ne_eqb i key d in rw e refl
 
-left-from : (lists : ℕ → List ℕ) (key i k : ℕ) → Has (left_of lists key i) k → (i ≡ key → ⊥) × Has (lists i) k
-unfolding left_of
-left-from lists key i k h = by_key (eqb i key) refl h
-  where
-    by_key : (b : Bool) → eqb i key ≡ b → Has (cond b [] (lists i)) k → (i ≡ key → ⊥) × Has (lists i) k
-    by_key true e m = absurd (has-none k m)
-    by_key false e m = (eqb-false i key e, m)
+has-back : (k : ℕ) (xs ys : List ℕ) → Has ys k → Has (xs ++ ys) k
+has-back k [] ys h = h
+has-back k (x ∷ xs) ys h = has-tail k x (xs ++ ys) (has-back k xs ys h)
 
-left-other : (lists : ℕ → List ℕ) (key i k : ℕ) → (i ≡ key → ⊥) → Has (lists i) k → Has (left_of lists key i) k
-unfolding left_of
-left-other lists key i k d h = let e : eqb i key ≡ false = ne_eqb i key d in rw e h
+once-back : (xs ys : List ℕ) → AreOnce (xs ++ ys) → AreOnce ys
+once-back [] ys o = o
+once-back (x ∷ xs) ys o = once-back xs ys o.1
 
-left-once : (lists : ℕ → List ℕ) (key i : ℕ) → AreOnce (lists i) → AreOnce (left_of lists key i)
-unfolding left_of
-left-once lists key i o = by_key (eqb i key)
-  where
-    by_key : (b : Bool) → AreOnce (cond b [] (lists i))
-    by_key true = tt
-    by_key false = o
-
-left-linked : (heads links : List (Option ℕ)) (lists : ℕ → List ℕ) (key : ℕ) → key < length heads → ((i : ℕ) → IsList links (link_at heads i) (lists i)) → (i : ℕ) → IsList links (link_at (set heads key None) i) (left_of lists key i)
-unfolding left_of
-left-linked heads links lists key l h i = by_key (eqb i key) refl
-  where
-    by_key : (b : Bool) → eqb i key ≡ b → IsList links (link_at (set heads key None) i) (cond b [] (lists i))
-    by_key true q =
-        let same : i ≡ key = eqb-true i key q in
-        rw same (get_or-set_same heads key None None l)
-    by_key false q =
-        let there : link_at (set heads key None) i ≡ link_at heads i = get_or-set_other heads key i None None (eqb-false i key q) in
-        rw there (h i)
-
--- the watches of a literal, taken out
-pub take-linked : (heads links : List (Option ℕ)) (keys : List ℕ) (taken : Option ℕ) (lists : ℕ → List ℕ) (key : ℕ) → key < length heads → Linked heads links keys taken lists [] → Linked (set heads key None) links keys (link_at heads key) (left_of lists key) (lists key)
-take-linked heads links keys taken lists key l c =
-    record {
-      linked = left-linked heads links lists key l c.linked;
-      out_linked = c.linked key;
-      home = λ i k h. c.home i k (left-from lists key i k h).1;
-      apart = λ i k h o.
-          let m = left-from lists key i k h in
-          m.0 (sym (c.home i k m.1) ∙ c.home key k o);
-      each = λ k h. elim (c.each k h) [
-        | inl m ↦ elim (cases_eq (get_or keys k 0) key) [
-          | inl e ↦ inr (rw e at m)
-          | inr d ↦ inl (left-other lists key (get_or keys k 0) k d m)
-        ]
-        | inr o ↦ absurd (has-none k o)
-      ];
-      once = λ i. left-once lists key i (c.once i);
-      out_once = c.once key;
-      long = c.long;
-    }
-
--- the watches taken out are those of the literal
-pub taken-are : (heads links : List (Option ℕ)) (keys : List ℕ) (taken : Option ℕ) (lists : ℕ → List ℕ) (key : ℕ) → Linked heads links keys taken lists [] → (k : ℕ) → (Has (lists key) k → (k < length keys) × (get_or keys k 0 ≡ key)) × ((k < length keys) × (get_or keys k 0 ≡ key) → Has (lists key) k)
-taken-are heads links keys taken lists key c k = (
+-- the watches of a literal are those of its list
+taken-are : (heads links : List (Option ℕ)) (keys : List ℕ) (lists : ℕ → List ℕ) (key : ℕ) → Linked heads links keys lists → (k : ℕ) → Has (lists key) k ↔ IsAt keys k key
+taken-are heads links keys lists key c k = (
   λ h. (omega (arith, list_from-below links (link_at heads key) (lists key) k (c.linked key) h, c.long), c.home key k h),
-  λ h. elim (c.each k (omega (arith, h.0, c.long))) [
-    | inl m ↦ rw h.1 at m
-    | inr o ↦ absurd (has-none k o)
-  ],
+  λ h. rw h.1 at (c.each k (omega (arith, h.0, c.long))),
 )
 
 -- a literal without a list has no watches
-pub none-beyond : (heads links : List (Option ℕ)) (keys : List ℕ) (taken : Option ℕ) (lists : ℕ → List ℕ) (key : ℕ) → length heads ≤ key → Linked heads links keys taken lists [] → lists key ≡ []
-none-beyond heads links keys taken lists key l c = by_list (lists key) (c.linked key)
+none-beyond : (heads links : List (Option ℕ)) (keys : List ℕ) (lists : ℕ → List ℕ) (key : ℕ) → length heads ≤ key → Linked heads links keys lists → lists key ≡ []
+none-beyond heads links keys lists key l c = by_list (lists key) (c.linked key)
   where
-    none_some : (x : ℕ) → ◌≡◌ {A = Option ℕ} None (Some x) → ⊥
-    none_some x e = cc
-
     by_list : (ks : List ℕ) → IsList links (link_at heads key) ks → ks ≡ []
     by_list [] h = refl
     by_list (k ∷ ks) h = absurd (none_some k (sym (get_or_past heads key None l) ∙ h.0))
 
--- the first watch that is out is one
-pub first-below : (heads links : List (Option ℕ)) (keys : List ℕ) (taken : Option ℕ) (watch : ℕ) (rest : List ℕ) → AreLinked heads links keys taken → list_from links (length links) taken ≡ watch ∷ rest → watch < length links
-first-below heads links keys taken watch rest c f =
-    let linked : IsList links taken (watch ∷ rest) = subst (λ (xs : List ℕ). IsList links taken xs) f c.out in
-    linked.1
+-- where none is out, no list is walked
+pub idle : (links : List (Option ℕ)) (head taken last : Option ℕ) → taken ≡ None → IsWalk links head taken last
+idle links head taken last e =
+    let none : list_from links (length links) taken ≡ [] = rw e (from-none links (length links)) in
+    record {
+      before = [];
+      out = rw (none, e) refl;
+      rest = λ n. absurd (n e);
+      none = λ n. refl;
+    }
+
+pub idle-out : (links : List (Option ℕ)) (head taken last : Option ℕ) → IsWalk links head taken last → list_from links (length links) taken ≡ [] → taken ≡ None
+idle-out links head taken last c f = subst (λ (xs : List ℕ). IsList links taken xs) f c.out
 
 -- the code's values after a watch was added
-pub added : (heads links more : List (Option ℕ)) (keys longer : List ℕ) (taken : Option ℕ) (key list watch : ℕ) (to : Option ℕ) → AreLinked heads links keys taken → list ≡ key → watch ≡ length links → key < length heads → to ≡ link_at heads list → more ≡ links ++ to ∷ [] → longer ≡ keys ++ key ∷ [] → AreLinked (set heads list (Some watch)) more longer taken × (list_from more (length more) taken ≡ list_from links (length links) taken)
-added heads links more keys longer taken key list watch to c e n l t m k =
-    let was = to-linked heads links keys taken c in
-    let now = add-linked heads links keys taken c.lists (list_from links (length links) taken) key l was in
-    rw (m, k, t, n, e) (from-linked _ _ _ _ _ _ now, out-is _ _ _ _ _ _ now)
+pub added : (heads links more : List (Option ℕ)) (keys longer : List ℕ) (key list watch : ℕ) (to : Option ℕ) → AreLinked heads links keys → list ≡ key → watch ≡ length links → key < length heads → to ≡ link_at heads list → more ≡ links ++ to ∷ [] → longer ≡ keys ++ key ∷ [] → AreLinked (set heads list (Some watch)) more longer
+added heads links more keys longer key list watch to c e n l t m k = rw (m, k, t, n, e) (from-linked _ _ _ _ (add-linked heads links keys c.lists key l (to-linked heads links keys c)))
 
--- after the first watch that was out was put back
-pub record IsPut (heads links : List (Option ℕ)) (keys : List ℕ) (taken : Option ℕ) (key list watch : ℕ) (to next : Option ℕ) : Type 0 where
-  pub linked : AreLinked (set heads list (Some watch)) (set links watch to) (set keys watch key) next
-  pub out : list_from (set links watch to) (length (set links watch to)) next ≡ drop 1 (list_from links (length links) taken)
-
-pub put : (heads links : List (Option ℕ)) (keys : List ℕ) (taken : Option ℕ) (key list watch : ℕ) (to next : Option ℕ) → AreLinked heads links keys taken → list_from links (length links) taken ≡ watch ∷ drop 1 (list_from links (length links) taken) → list ≡ key → key < length heads → to ≡ link_at heads list → next ≡ link_at links watch → IsPut heads links keys taken key list watch to next
-put heads links keys taken key list watch to next c f e l t n =
-    let was = to-linked heads links keys taken c in
-    let first : Linked heads links keys taken c.lists (watch ∷ drop 1 (list_from links (length links) taken)) = subst (λ (xs : List ℕ). Linked heads links keys taken c.lists xs) f was in
-    let now = put-back heads links keys taken c.lists (drop 1 (list_from links (length links) taken)) watch key l first in
-    rw (t, n, e) (record { linked = from-linked _ _ _ _ _ _ now; out = out-is _ _ _ _ _ _ now })
-
--- after the watches of a literal were taken out
-pub record IsTaken (heads links : List (Option ℕ)) (keys : List ℕ) (key list : ℕ) (next : Option ℕ) : Type 0 where
-  pub linked : AreLinked (set heads list None) links keys next
+-- after the walk of the list of a literal began
+pub record IsTaken (links : List (Option ℕ)) (keys : List ℕ) (key : ℕ) (next : Option ℕ) : Type 0 where
+  pub walk : (last : Option ℕ) → last ≡ None → IsWalk links next next last
   pub watches : (k : ℕ) → Has (list_from links (length links) next) k ↔ IsAt keys k key
   pub once : AreOnce (list_from links (length links) next)
 
-pub took : (heads links : List (Option ℕ)) (keys : List ℕ) (taken : Option ℕ) (key list : ℕ) (next : Option ℕ) → AreLinked heads links keys taken → list_from links (length links) taken ≡ [] → list ≡ key → list < length heads → next ≡ link_at heads list → IsTaken heads links keys key list next
-took heads links keys taken key list next c f e l n =
-    let was : Linked heads links keys taken c.lists [] = subst (λ (xs : List ℕ). Linked heads links keys taken c.lists xs) f (to-linked heads links keys taken c) in
-    let inside : key < length heads = rw e at l in
-    let now = take-linked heads links keys taken c.lists key inside was in
-    let is : list_from links (length links) (link_at heads key) ≡ c.lists key = out-is _ _ _ _ _ _ now in
-    rw (n, e) (record { linked = from-linked _ _ _ _ _ _ now; watches = rw is (taken-are heads links keys taken c.lists key was); once = rw is (c.once key) })
+pub took : (heads links : List (Option ℕ)) (keys : List ℕ) (key list : ℕ) (next : Option ℕ) → AreLinked heads links keys → list ≡ key → next ≡ link_at heads list → IsTaken links keys key next
+took heads links keys key list next c e n =
+    let was = to-linked heads links keys c in
+    let is : list_from links (length links) (link_at heads key) ≡ c.lists key = list-is heads links keys c.lists was key in
+    rw (n, e) (record {
+      walk = λ last z. record {
+        before = [];
+        out = rw is (c.linked key);
+        rest = λ m. rw z refl;
+        none = λ m. refl;
+      };
+      watches = rw is (taken-are heads links keys c.lists key was);
+      once = rw is (c.once key);
+    })
 
 -- after none was, as the literal has no list
-pub took-none : (heads links : List (Option ℕ)) (keys : List ℕ) (taken : Option ℕ) (key : ℕ) (out : List ℕ) → AreLinked heads links keys taken → list_from links (length links) taken ≡ [] → length heads ≤ key → out ≡ [] → (k : ℕ) → Has out k ↔ IsAt keys k key
-took-none heads links keys taken key out c f l o k =
-    let was : Linked heads links keys taken c.lists [] = subst (λ (xs : List ℕ). Linked heads links keys taken c.lists xs) f (to-linked heads links keys taken c) in
-    let none : c.lists key ≡ [] = none-beyond heads links keys taken c.lists key l was in
-    let are = taken-are heads links keys taken c.lists key was k in
+pub took-none : (heads links : List (Option ℕ)) (keys : List ℕ) (key : ℕ) (out : List ℕ) → AreLinked heads links keys → length heads ≤ key → out ≡ [] → (k : ℕ) → Has out k ↔ IsAt keys k key
+took-none heads links keys key out c l o k =
+    let was = to-linked heads links keys c in
+    let none : c.lists key ≡ [] = none-beyond heads links keys c.lists key l was in
+    let are = taken-are heads links keys c.lists key was k in
     rw o (rw none at are)
+
+-- the first watch that is out, and the list that it is in
+pub record IsFirst (heads links : List (Option ℕ)) (keys : List ℕ) (walked watch : ℕ) (taken last : Option ℕ) (c : AreLinked heads links keys) (w : IsWalk links (link_at heads walked) taken last) (out : List ℕ) : Type 0 where
+  pub is : taken ≡ Some watch
+  pub below : watch < length links
+  pub list : c.lists walked ≡ (w.before ++ option_to_list last) ++ watch ∷ out
+  pub home : get_or keys watch 0 ≡ walked
+  pub rest : IsList links (link_at links watch) out
+
+pub first-is : (heads links : List (Option ℕ)) (keys : List ℕ) (walked watch : ℕ) (taken last : Option ℕ) (out : List ℕ) (c : AreLinked heads links keys) (w : IsWalk links (link_at heads walked) taken last) → list_from links (length links) taken ≡ watch ∷ out → IsFirst heads links keys walked watch taken last c w out
+first-is heads links keys walked watch taken last out c w f =
+    let linked : IsList links taken (watch ∷ out) = subst (λ (xs : List ℕ). IsList links taken xs) f w.out in
+    let some : taken ≢ None = λ n. none_some watch (sym n ∙ linked.0) in
+    let list : c.lists walked ≡ (w.before ++ option_to_list last) ++ watch ∷ out = sym (list-is heads links keys c.lists (to-linked heads links keys c) walked) ∙ (w.rest some ∙ ap (λ (xs : List ℕ). (w.before ++ option_to_list last) ++ xs) f) in
+    record {
+      is = linked.0;
+      below = linked.1;
+      list = list;
+      home = c.home walked watch (rw list (has-middle watch (w.before ++ option_to_list last) out));
+      rest = linked.2;
+    }
+
+pub last-below : (heads links : List (Option ℕ)) (keys : List ℕ) (walked watch : ℕ) (taken last : Option ℕ) (out : List ℕ) (l : ℕ) → AreLinked heads links keys → IsWalk links (link_at heads walked) taken last → list_from links (length links) taken ≡ watch ∷ out → last ≡ Some l → l < length links
+last-below heads links keys walked watch taken last out l c w f e =
+    let first = first-is heads links keys walked watch taken last out c w f in
+    let one : Has (option_to_list last) l = rw e (has-head l l [] refl) in
+    list_from-below links (link_at heads walked) (c.lists walked) l (c.linked walked) (rw first.list (has-front l (w.before ++ option_to_list last) (watch ∷ out) (has-back l w.before (option_to_list last) one)))
+
+-- after the first watch that was out was put back
+pub record IsPut (heads links : List (Option ℕ)) (keys : List ℕ) (walked : ℕ) (taken last : Option ℕ) (out : List ℕ) : Type 0 where
+  pub linked : AreLinked heads links keys
+  pub walk : IsWalk links (link_at heads walked) taken last
+  pub out_is : list_from links (length links) taken ≡ out
+
+pub stayed : (heads links : List (Option ℕ)) (keys : List ℕ) (walked watch : ℕ) (taken last next : Option ℕ) (out : List ℕ) → AreLinked heads links keys → IsWalk links (link_at heads walked) taken last → list_from links (length links) taken ≡ watch ∷ out → next ≡ link_at links watch → IsPut heads links keys walked next taken out
+stayed heads links keys walked watch taken last next out c w f n =
+    let first = first-is heads links keys walked watch taken last out c w f in
+    let xs = w.before ++ option_to_list last in
+    let once : AreOnce out = (once-back xs (watch ∷ out) (rw first.list at (c.once walked))).1 in
+    let is : list_from links (length links) next ≡ out = rw n (once-is links (link_at links watch) out first.rest once) in
+    record {
+      linked = c;
+      walk = record {
+        before = xs;
+        out = rw is (rw n first.rest);
+        rest = λ m. rw (is, first.is) (list-is heads links keys c.lists (to-linked heads links keys c) walked ∙ (first.list ∙ sym (append_assoc xs (watch ∷ []) out)));
+        none = λ m. absurd (none_some watch (sym m ∙ first.is));
+      };
+      out_is = is;
+    }
+
+pub moved : (heads links : List (Option ℕ)) (keys : List ℕ) (walked watch key : ℕ) (taken last next to : Option ℕ) (out : List ℕ) → AreLinked heads links keys → IsWalk links (link_at heads walked) taken last → list_from links (length links) taken ≡ watch ∷ out → next ≡ link_at links watch → (key ≡ walked → ⊥) → key < length heads → walked < length heads → to ≡ link_at (heads_past heads walked last next) key → IsPut (set (heads_past heads walked last next) key (Some watch)) (set (links_past links last next) watch to) (set keys watch key) walked next last out
+moved heads links keys walked watch key taken last next to out c w f n d l m t =
+    let first = first-is heads links keys walked watch taken last out c w f in
+    let xs = w.before ++ option_to_list last in
+    let heads_now = heads_past heads walked last (link_at links watch) in
+    let links_now = links_past links last (link_at links watch) in
+    let lists = with_list c.lists walked (xs ++ out) in
+    let apart = past heads links keys c.lists watch walked w.before last out m w.none (to-linked heads links keys c) first.list in
+    let inside : key < length heads_now = omega (arith, l, heads-past-length heads walked last (link_at links watch)) in
+    let links_then = set links_now watch (link_at heads_now key) in
+    let now : Linked (set heads_now key (Some watch)) links_then (set keys watch key) (put_in lists key watch) = put-apart heads_now links_now keys watch key walked xs out (link_at links watch) lists inside apart in
+    let list : put_in lists key watch walked ≡ xs ++ out = put-other lists key watch walked (λ e. d (sym e)) ∙ apart.list in
+    let loose : Has out watch → ⊥ = λ h. apart.apart walked (rw apart.list (has-back watch xs out h)) in
+    let rest : IsList links_then (link_at links watch) out = list_from-set links_now watch (link_at heads_now key) (link_at links watch) out loose apart.rest in
+    let once : AreOnce out = once-back xs out (rw apart.list at (apart.once walked)) in
+    let is : list_from links_then (length links_then) (link_at links watch) ≡ out = once-is links_then (link_at links watch) out rest once in
+    rw (t, n) (record {
+      linked = from-linked _ _ _ _ now;
+      walk = record {
+        before = w.before;
+        out = rw is rest;
+        rest = λ z. rw is (list-is _ _ _ _ now walked ∙ list);
+        none = w.none;
+      };
+      out_is = is;
+    })

@@ -25,18 +25,15 @@ pub listed-more : (lists more : ℕ) (keys : List ℕ) → lists ≤ more → Ar
 listed-more lists more keys l h = record { few = h.few; below = All-weaker (λ (k : ℕ). k < lists) (λ (k : ℕ). k < more) (λ k q. omega (arith, l, q)) keys h.below }
 
 -- no watch in empty lists
-pub none-linked : (n : ℕ) → AreLinked (replicate n None) [] [] None
+pub none-linked : (n : ℕ) → AreLinked (replicate n None) [] []
 none-linked n =
-    wider [] [] [] None n
+    wider [] [] [] n
     (record {
       lists = λ key. [];
       linked = λ key. refl;
-      out = refl;
       home = λ key k h. absurd (has-none k h);
-      apart = λ key k h o. has-none k h;
       each = λ k h. absurd (omega arith);
       once = λ key. tt;
-      out_once = tt;
       long = refl;
     })
 
@@ -127,11 +124,11 @@ keys-kept (x ∷ xs) zero n m l e k = ap (λ (y : ℕ). y ∷ keys_of xs) (k ∙
 keys-kept (x ∷ xs) (suc place) n m l e k = ap (λ (ks : List ℕ). x.key ∷ ks) (keys-kept xs place n m (omega arith) e k)
 
 -- one watch more is linked
-pub link-more : (heads : List (Option ℕ)) (watches : List Watch) (place list : ℕ) (m : Watch) → place < length watches → list ≡ m.key → m.key < length heads → m.next ≡ link_at heads list → AreLinked heads (links_of (take place watches)) (keys_of (take place watches)) None → AreLinked (set heads list (Some place)) (links_of (take (place + 1) (set watches place m))) (keys_of (take (place + 1) (set watches place m))) None
+pub link-more : (heads : List (Option ℕ)) (watches : List Watch) (place list : ℕ) (m : Watch) → place < length watches → list ≡ m.key → m.key < length heads → m.next ≡ link_at heads list → AreLinked heads (links_of (take place watches)) (keys_of (take place watches)) → AreLinked (set heads list (Some place)) (links_of (take (place + 1) (set watches place m))) (keys_of (take (place + 1) (set watches place m)))
 link-more heads watches place list m l e k t c =
     let now : take (place + 1) (set watches place m) ≡ take place watches ++ m ∷ [] = take_more_set watches place m l in
     let count : place ≡ length (links_of (take place watches)) = omega (arith, l, links-length (take place watches), length-take-le place watches (omega arith)) in
-    (added heads (links_of (take place watches)) _ (keys_of (take place watches)) _ None m.key list place m.next c e count k t (ap links_of now ∙ links-push (take place watches) m) (ap keys_of now ∙ keys-push (take place watches) m)).0
+    added heads (links_of (take place watches)) _ (keys_of (take place watches)) _ m.key list place m.next c e count k t (ap links_of now ∙ links-push (take place watches) m) (ap keys_of now ∙ keys-push (take place watches) m)
 
 -- how far the two of each clause were gone over: these are kept in front, and those behind are still to come
 pub record IsKeeping {X : Type 0} (ids : List ℕ) (cs : List NumberedClause) (first xs : List X) (kept place : ℕ) : Type 0 where

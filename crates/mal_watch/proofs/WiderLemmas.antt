@@ -6,22 +6,19 @@ none-more zero k = refl
 none-more (suc m) zero = refl
 none-more (suc m) (suc k) = none-more m k
 
-head-more : (heads : List (Option ℕ)) (m k : ℕ) → link_at (heads ++ replicate m None) k ≡ link_at heads k
+pub head-more : (heads : List (Option ℕ)) (m k : ℕ) → link_at (heads ++ replicate m None) k ≡ link_at heads k
 head-more [] m k = none-more m k
 head-more (x ∷ xs) m zero = refl
 head-more (x ∷ xs) m (suc k) = head-more xs m k
 
 -- lists stay as they are where there are more of them, without a watch
-pub wider : (heads links : List (Option ℕ)) (keys : List ℕ) (taken : Option ℕ) (m : ℕ) → AreLinked heads links keys taken → AreLinked (heads ++ replicate m None) links keys taken
-wider heads links keys taken m c =
+pub wider : (heads links : List (Option ℕ)) (keys : List ℕ) (m : ℕ) → AreLinked heads links keys → AreLinked (heads ++ replicate m None) links keys
+wider heads links keys m c =
     record {
       lists = c.lists;
       linked = λ key. rw (head-more heads m key) (c.linked key);
-      out = c.out;
       home = c.home;
-      apart = c.apart;
       each = c.each;
       once = c.once;
-      out_once = c.out_once;
       long = c.long;
     }

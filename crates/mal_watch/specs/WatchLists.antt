@@ -1,4 +1,4 @@
-use Rattle.std.specs.Prelude.{◌≡◌, ℕ, zero, suc, ◌<◌, ◌≤◌, ◌⊎◌, All, true, eqb, List, [], ◌∷◌, length, slice_index, slice_index_or, Option, Some, None}
+use Rattle.std.specs.Prelude.{◌≡◌, ◌≢◌, ℕ, zero, suc, ◌<◌, ◌≤◌, All, true, eqb, List, [], ◌∷◌, ◌++◌, length, slice_index, slice_index_or, Option, Some, None, option_to_list}
 use Rattle.std.specs.List.{list_any}
 use Rattle.mal_watch.specs.Links.{nowhere}
 
@@ -38,18 +38,23 @@ abbrev pub IsList : List (Option ℕ) → Option ℕ → List ℕ → Type 0
 IsList links from [] = from ≡ None
 IsList links from (k ∷ ks) = (from ≡ Some k) × (k < length links) × IsList links (link_at links k) ks
 
--- there are lists, linked from their heads on, of which each has watches of its literal alone, and each once; so have
--- the watches that are out, which are in no list; each watch is in the list of its literal or out
-pub record AreLinked (heads links : List (Option ℕ)) (keys : List ℕ) (taken : Option ℕ) : Type 0 where
+-- there are lists, linked from their heads on, of which each has watches of its literal alone, and each once; each
+-- watch is in the list of its literal
+pub record AreLinked (heads links : List (Option ℕ)) (keys : List ℕ) : Type 0 where
   pub lists : ℕ → List ℕ
   pub linked : (key : ℕ) → IsList links (link_at heads key) (lists key)
-  pub out : IsList links taken (list_from links (length links) taken)
   pub home : (key k : ℕ) → Has (lists key) k → slice_index keys k ≡ key
-  pub apart : (key k : ℕ) → Has (lists key) k → Has (list_from links (length links) taken) k → ⊥
-  pub each : (k : ℕ) → k < length links → Has (lists (slice_index keys k)) k ⊎ Has (list_from links (length links) taken) k
+  pub each : (k : ℕ) → k < length links → Has (lists (slice_index keys k)) k
   pub once : (key : ℕ) → AreOnce (lists key)
-  pub out_once : AreOnce (list_from links (length links) taken)
   pub long : length keys ≡ length links
+
+-- the watches that are out, from one on along the links, are the rest of the list with this head, where there are any;
+-- before them stand those that stayed, of which this one is the last, if there is one
+pub record IsWalk (links : List (Option ℕ)) (head taken last : Option ℕ) : Type 0 where
+  pub before : List ℕ
+  pub out : IsList links taken (list_from links (length links) taken)
+  pub rest : taken ≢ None → list_from links (length links) head ≡ (before ++ option_to_list last) ++ list_from links (length links) taken
+  pub none : last ≡ None → before ≡ []
 
 -- there are no more watches than numbers for them, and a list for the literal of each
 pub record AreListed (lists : ℕ) (keys : List ℕ) : Type 0 where

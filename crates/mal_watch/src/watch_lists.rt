@@ -1,4 +1,5 @@
-//! Lists of watches, linked in place: a watch moves from one list to another without memory.
+//! Lists of watches, linked in place: a watch moves from one list to another without memory, and nothing is written for
+//! one that stays.
 
 ghost use Rattle.std.specs.Prelude.{◌≡◌, ℕ, ◌+◌, ◌≤◌, ◌<◌, [], ◌∷◌, ◌++◌, length, drop, replicate, slice_index, slice_set, None, OnOk, MatchOption, ◌↔◌, vec_len, vec_capacity};
 ghost use Rattle.std.specs.List.Sorted.{IsNonDecreasing};
@@ -21,20 +22,25 @@ struct Watch {
     key: Lit,
 }
 
-/// Watches, each in the list of its literal, but for those that were taken out of a list and not put back yet.
-/// Contracts see each watch's literal, the watches taken out, in the order in which they go back, how many lists there
-/// are (one for each code of a literal below this number), and how many watches more there is room for.
+/// Watches, each in the list of its literal. Those of one literal are taken out, and put back one after another, into
+/// its list or another. That list is walked in place: the watches that are out are the rest of it, and one that goes
+/// back into it stays where it is. Contracts see each watch's literal, the watches taken out, in the order in which
+/// they go back, how many lists there are (one for each code of a literal below this number), and how many watches more
+/// there is room for.
 #[derive(Drop)]
 pub struct WatchLists {
     heads: Vec<Link>,
     watches: Vec<Watch>,
+    // The first watch that is out, the list that is walked, and the watch before it in that list.
     taken: Link,
+    walked: usize,
+    last: Link,
 }
 
 impl Model for WatchLists {
     ghost use Rattle.std.specs.Prelude.{◌-◌, length, min};
     ghost use Rattle.std.specs.Vec.{vec_len, vec_capacity};
-    ghost use Rattle.mal_watch.specs.{WatchLists.{ListedWatches, AreLinked, AreListed, list_from}, Links.{nowhere}, Watches.{links_of, keys_of}};
+    ghost use Rattle.mal_watch.specs.{WatchLists.{ListedWatches, AreLinked, IsWalk, AreListed, link_at, list_from}, Links.{nowhere}, Watches.{links_of, keys_of}};
 
     ghost Value = { ListedWatches };
 
@@ -45,7 +51,8 @@ impl Model for WatchLists {
       room = min (vec_capacity c.watches - vec_len c.watches) (nowhere - vec_len c.watches);
     } };
 
-    ghost invariant = { λ c. AreLinked c.heads.items (links_of c.watches.items) (keys_of c.watches.items) c.taken
+    ghost invariant = { λ c. AreLinked c.heads.items (links_of c.watches.items) (keys_of c.watches.items)
+        × IsWalk (links_of c.watches.items) (link_at c.heads.items c.walked) c.taken c.last
         × AreListed (length c.heads.items) (keys_of c.watches.items) };
 }
 
@@ -59,6 +66,8 @@ impl WatchLists {
             heads: Vec::new(alloc),
             watches: Vec::new(alloc),
             taken: Link::none(),
+            walked: 0,
+            last: Link::none(),
         }
     }
 
@@ -87,8 +96,9 @@ impl WatchLists {
         self.watches[watch].key
     }
 
-    /// Adds a watch to the list of a literal. Takes no memory.
+    /// Adds a watch to the list of a literal, where none is out. Takes no memory.
     pub fn add(&mut self, key: Lit)
+        requires out { self.old.out ≡ [] }
         requires list { key < self.old.count }
         requires room { 1 ≤ self.old.room }
         ensures keys { self.new.keys ≡ self.old.keys ++ key ∷ [] }
@@ -103,7 +113,7 @@ impl WatchLists {
         self.heads[list] = Link::to(watch);
     }
 
-    /// Takes all watches of a literal out of its list, where none is out.
+    /// Takes all watches of a literal out, where none is out.
     pub fn take(&mut self, key: Lit)
         requires { self.old.out ≡ [] }
         ensures watches { (k : ℕ) → Has self.new.out k ↔ IsAt self.new.keys k key }
@@ -115,7 +125,8 @@ impl WatchLists {
         let list = key.code() as usize;
         if list < self.heads.len() {
             self.taken = self.heads[list];
-            self.heads[list] = Link::none();
+            self.walked = list;
+            self.last = Link::none();
         }
     }
 
@@ -139,8 +150,18 @@ impl WatchLists {
         let list = key.code() as usize;
         let first = self.taken;
         let rest = self.watches[watch].next;
-        let next = self.heads[list];
         self.taken = rest;
+        if list == self.walked {
+            // It stays where it is.
+            self.last = first;
+            return;
+        }
+        // The list that is walked leads past it.
+        match self.last.watch() {
+            Some(last) => self.watches[last].next = rest,
+            None => self.heads[self.walked] = rest,
+        }
+        let next = self.heads[list];
         self.watches[watch] = Watch { next, key };
         self.heads[list] = first;
     }
@@ -186,7 +207,7 @@ fn keep_pairs(watches: &mut Vec<Watch>, store: &Store, ids: &[ClauseId])
 fn link_all(heads: &mut Vec<Link>, watches: &mut Vec<Watch>)
     requires empty { heads.old.items ≡ replicate (vec_len heads.old) None }
     requires listed { AreListed (vec_len heads.old) (keys_of watches.old.items) }
-    ensures linked { AreLinked heads.new.items (links_of watches.new.items) (keys_of watches.new.items) None }
+    ensures linked { AreLinked heads.new.items (links_of watches.new.items) (keys_of watches.new.items) }
     ensures keys { keys_of watches.new.items ≡ keys_of watches.old.items }
     ensures lists { vec_len heads.new ≡ vec_len heads.old }
     ensures capacity { vec_capacity watches.new ≡ vec_capacity watches.old }
