@@ -171,7 +171,11 @@ impl Done {
     {
         match self.cause {
             None => Ok(self),
-            Some(cause) => Err(cause),
+            Some(cause) => {
+                // For the proof.
+                drop(self);
+                Err(cause)
+            }
         }
     }
 
@@ -180,6 +184,9 @@ impl Done {
         ensures journal { journal_of result ≡ self.journal }
         ensures gone { is_gone result ≡ self.gone }
     {
+        // For the proof.
+        drop(self.lines);
+        drop(self.values);
         self.kept
     }
 

@@ -116,10 +116,11 @@ impl Entries {
     pub(crate) fn and_slice(&self) -> Result<Entries, AllocError>
         ensures { IfOk result (λ e. e ≡ self.now ++ Run ∷ []) }
     {
+        let slices = next(self.slices)?;
         Ok(Entries {
             alloc: self.alloc,
             listed: shared(&self.listed)?,
-            slices: next(self.slices)?,
+            slices,
         })
     }
 

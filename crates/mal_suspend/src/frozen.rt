@@ -77,6 +77,9 @@ impl Frozen {
     {
         let alloc = self.journal.allocator();
         let image = thaw_known(alloc, self.bytes.as_slice())?;
-        Node::of_image(alloc, &image)
+        let node = Node::of_image(alloc, &image);
+        // For the proof.
+        drop(image);
+        node
     }
 }

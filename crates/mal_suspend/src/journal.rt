@@ -195,10 +195,29 @@ fn and_start(
         return before.and_slice();
     }
     let mut entries = before.growing(loads.len() + imports.len())?;
-    push_loads(&mut entries, loads)?;
-    push_imports(&mut entries, imports)?;
-    entries.push_slice()?;
-    entries.share(before.allocator())
+    match push_start(&mut entries, loads, imports) {
+        Ok(()) => entries.share(before.allocator()),
+        Err(error) => {
+            // For the proof.
+            drop(entries);
+            Err(error)
+        }
+    }
+}
+
+/// Puts the entries of a start behind the others: loads of these revisions, then imports of what was broadcast, then a
+/// slice.
+fn push_start(
+    entries: &mut Growing,
+    loads: &[(Arc<Revision>, u32)],
+    imports: &[Arc<Buffer>],
+) -> Result<(), AllocError>
+    ensures { OnOk result
+        (entries.new ≡ entries.old ++ start_entries (shared_loads loads.now) (shared_imports imports.now)) }
+{
+    push_loads(entries, loads)?;
+    push_imports(entries, imports)?;
+    entries.push_slice()
 }
 
 /// Puts loads of these revisions behind the entries.

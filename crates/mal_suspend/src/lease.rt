@@ -112,7 +112,11 @@ impl Lease {
         ensures tells { Tells result.outcome result }
     {
         match self.kept.wake(scratch) {
-            Err((kept, error)) => Done::starved(self.worker, kept, error),
+            Err((kept, error)) => {
+                // For the proof.
+                drop(self.start);
+                Done::starved(self.worker, kept, error)
+            }
             Ok(suspended) => self.start.run(suspended, self.worker, scratch),
         }
     }
@@ -122,6 +126,8 @@ impl Lease {
         ensures journal { journal_of result ≡ self.journal }
         ensures gone { is_gone result ≡ self.gone }
     {
+        // For the proof.
+        drop(self.start);
         self.kept
     }
 }

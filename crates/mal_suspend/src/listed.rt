@@ -101,10 +101,25 @@ fn copies(alloc: Global, counted: &[Counted], more: usize) -> Result<Vec<Counted
     ensures { IfOk result (λ v. entries_of v.items ≡ entries_of counted.now) }
 {
     let mut all = Vec::new(alloc);
+    match push_copies(&mut all, counted, more) {
+        Ok(()) => Ok(all),
+        Err(error) => {
+            // For the proof.
+            drop(all);
+            Err(error)
+        }
+    }
+}
+
+/// Puts equal entries into an empty list, with room for so many more.
+fn push_copies(all: &mut Vec<Counted>, counted: &[Counted], more: usize) -> Result<(), AllocError>
+    requires { all.old.items ≡ [] }
+    ensures { OnOk result (entries_of all.new.items ≡ entries_of counted.now) }
+{
     all.reserve(counted.len())?;
     for one in counted {
-        all.push(one.copy()?)?;
+        all.reserve(1)?;
+        all.push_reserved(one.copy()?);
     }
-    all.reserve(more)?;
-    Ok(all)
+    all.reserve(more)
 }

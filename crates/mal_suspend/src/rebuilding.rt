@@ -19,15 +19,24 @@ pub fn rebuild(alloc: Global, journal: &Journal) -> Result<Suspended, AllocError
 {
     let journal = journal.copy()?;
     let mut scratch = Scratch::new(alloc);
-    with_node(journal, &mut scratch)
+    let suspended = with_node(journal, &mut scratch);
+    // For the proof.
+    drop(scratch);
+    suspended
 }
 
 /// A journal with its node.
 fn with_node(journal: Journal, scratch: &mut Scratch) -> Result<Suspended, AllocError>
     ensures { IfOk result (λ s. s ≡ journal) }
 {
-    let node = replay(&journal, scratch)?;
-    Ok(Suspended::of(node, journal))
+    match replay(&journal, scratch) {
+        Ok(node) => Ok(Suspended::of(node, journal)),
+        Err(error) => {
+            // For the proof.
+            drop(journal);
+            Err(error)
+        }
+    }
 }
 
 /// The node of a journal: the node of its profile at its first start, and then each entry in turn.
@@ -35,8 +44,14 @@ pub fn replay(journal: &Journal, scratch: &mut Scratch) -> Result<Solver, AllocE
     ensures { IfOk result (λ n. n.state ≡ node_of journal.now) }
 {
     let mut node = Node::fresh_with(journal.allocator(), journal.index(), journal.profile());
-    follow(&mut node, journal, scratch)?;
-    Ok(node)
+    match follow(&mut node, journal, scratch) {
+        Ok(()) => Ok(node),
+        Err(error) => {
+            // For the proof.
+            drop(node);
+            Err(error)
+        }
+    }
 }
 
 /// Takes a node at its first start over each entry of its journal in turn.

@@ -1,11 +1,11 @@
 //! A start of a node.
 
-ghost use Rattle.std.specs.Prelude.{◌≡◌, ◌<◌, ◌≤◌, IfOk, OnOk, OnErr};
+ghost use Rattle.std.specs.Prelude.{◌≡◌, ◌<◌, ◌≤◌, [], vec_capacity, IfOk, OnOk, OnErr};
 ghost use Rattle.spec_node.specs.Sound.{IsSound};
 ghost use Rattle.spec_search.specs.Slice.{slice};
 ghost use Rattle.mal_cdcl.specs.Sliced.{HasIdRoom, HasLowCounts, HasSliceRoom};
 ghost use Rattle.spec_job.specs.{Journaled.{replayed, and_entries, started}, Leased.{HasBecome}};
-ghost use Rattle.mal_suspend.specs.{Replaying.{MayAllReplay, after_entries, alone}, Starting.{shared_loads, shared_imports, start_entries}};
+ghost use Rattle.mal_suspend.specs.{Replaying.{IsJournal, MayAllReplay, after_entries, alone, variables_after}, Starting.{shared_loads, shared_imports, start_entries}};
 
 use crate::done::Done;
 use crate::journal::Journal;
@@ -64,14 +64,20 @@ impl Start {
             ≡ and_entries (started start journal.now)
             (start_entries (shared_loads loads.items) (shared_imports imports.items))) }
     {
-        let grown = journal.grown(start, loads.as_slice(), imports.as_slice())?;
-        let values = Vec::with_capacity(journal.allocator(), grown.variables() as usize)?;
-        Ok(Start {
-            grown,
-            loads,
-            imports,
-            values,
-        })
+        match grown_with_room(journal, loads.as_slice(), imports.as_slice(), start) {
+            Err(error) => {
+                // For the proof.
+                drop(loads);
+                drop(imports);
+                Err(error)
+            }
+            Ok((grown, values)) => Ok(Start {
+                grown,
+                loads,
+                imports,
+                values,
+            }),
+        }
     }
 
     /// The journal after the start.
@@ -90,8 +96,16 @@ impl Start {
     {
         let (mut node, journal) = suspended.into_parts();
         match self.make_ready(&mut node, scratch) {
-            Err(error) => Done::starved(worker, Kept::Live(Suspended::of(node, journal)), error),
+            Err(error) => {
+                // For the proof.
+                drop(self);
+                Done::starved(worker, Kept::Live(Suspended::of(node, journal)), error)
+            }
             Ok(()) => {
+                // For the proof.
+                drop(journal);
+                drop(self.loads);
+                drop(self.imports);
                 node.run(scratch);
                 Done::ran(worker, node, self.grown, self.values).packed(scratch)
             }
@@ -114,5 +128,33 @@ impl Start {
         let imports = lend_imports(alloc, self.imports.as_slice())?;
         node.ready(loads.as_slice(), imports.as_slice(), scratch)?;
         Ok(())
+    }
+}
+
+/// The journal after such a start, with an empty list that has room for the values of a model.
+fn grown_with_room(
+    journal: &Journal,
+    loads: &[(Arc<Revision>, u32)],
+    imports: &[Arc<Buffer>],
+    start: u64,
+) -> Result<(Journal, Vec<bool>), AllocError>
+    requires { MayAllReplay (replayed journal.now)
+        (start_entries (shared_loads loads.now) (shared_imports imports.now)) }
+    ensures grown { IfOk result
+        (λ r. r.0
+        ≡ and_entries (started start journal.now)
+        (start_entries (shared_loads loads.now) (shared_imports imports.now))) }
+    ensures keeps { IfOk result (λ r. IsJournal r.0.profile r.0.index r.0.entries) }
+    ensures empty { IfOk result (λ r. r.1.items ≡ []) }
+    ensures room { IfOk result (λ r. variables_after 0 r.0.entries ≤ vec_capacity r.1) }
+{
+    let grown = journal.grown(start, loads, imports)?;
+    match Vec::with_capacity(journal.allocator(), grown.variables() as usize) {
+        Ok(values) => Ok((grown, values)),
+        Err(error) => {
+            // For the proof.
+            drop(grown);
+            Err(error)
+        }
     }
 }

@@ -117,6 +117,8 @@ impl Suspended {
         requires { IsFrozen bytes.items self }
         ensures { result ≡ self }
     {
+        // For the proof.
+        drop(self.node);
         Frozen::of(bytes, self.journal)
     }
 
@@ -160,7 +162,9 @@ impl Suspended {
     {
         let alloc = self.journal.allocator();
         let image = self.node.image()?;
-        let bytes = freeze(alloc, &image)?;
-        Ok(bytes)
+        let bytes = freeze(alloc, &image);
+        // For the proof.
+        drop(image);
+        bytes
     }
 }
