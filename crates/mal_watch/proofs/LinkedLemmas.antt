@@ -1,4 +1,4 @@
-use Rattle.std.proofs.Common.{◌≡◌, ◌≢◌, ℕ, zero, suc, ◌+◌, ◌<◌, ◌≤◌, ◌↔◌, ◌⊎◌, inl, inr, Bool, true, false, cond, eqb, List, [], ◌∷◌, ◌++◌, length, set, get_or, Option, Some, None, refl, sym, ap, subst, ◌∙◌, append_assoc, arith}
+use Rattle.std.proofs.Common.{◌≡◌, ◌≢◌, ℕ, zero, suc, ◌+◌, ◌<◌, ◌≤◌, ◌↔◌, ◌⊎◌, inl, inr, Bool, true, false, cond, eqb, List, [], ◌∷◌, ◌++◌, length, drop, set, get_or, Option, Some, None, refl, sym, ap, subst, ◌∙◌, append_assoc, arith}
 use Rattle.std.specs.Prelude.{option_to_list}
 use Rattle.std.proofs.lemmas.Bool.{eqb-true, eqb-false, eq-eqb, ne_eqb, cases_eq}
 use Rattle.std.proofs.lemmas.List.{length-set, length_push, get_or-set_same, get_or-set_other, get_or_append_left, get_or_push, get_or_past}
@@ -345,6 +345,52 @@ idle links head taken last e =
 pub idle-out : (links : List (Option ℕ)) (head taken last : Option ℕ) → IsWalk links head taken last → list_from links (length links) taken ≡ [] → taken ≡ None
 idle-out links head taken last c f = subst (λ (xs : List ℕ). IsList links taken xs) f c.out
 
+some_one : (x y : ℕ) → Some x ≡ Some y → x ≡ y
+some_one x y e = cc
+
+from-length : (links : List (Option ℕ)) (n : ℕ) (from : Option ℕ) → length (list_from links n from) ≤ n
+from-length links zero from = omega arith
+from-length links (suc n) None = omega arith
+from-length links (suc n) (Some k) = omega (arith, from-length links n (link_at links k))
+
+-- the watches from one on, of which that is the first
+pub record IsNext (links : List (Option ℕ)) (from : Option ℕ) (watch : ℕ) : Type 0 where
+  pub below : watch < length links
+  pub list : list_from links (length links) from ≡ watch ∷ list_from links (length links) (link_at links watch)
+  pub rest : IsList links (link_at links watch) (list_from links (length links) (link_at links watch))
+
+pub next-from : (links : List (Option ℕ)) (from : Option ℕ) (watch : ℕ) → from ≡ Some watch → IsList links from (list_from links (length links) from) → IsNext links from watch
+next-from links from watch e h = by_list (list_from links (length links) from) refl h
+  where
+    by_list : (ks : List ℕ) → list_from links (length links) from ≡ ks → IsList links from ks → IsNext links from watch
+    by_list [] q i = absurd (none_some watch (sym i ∙ e))
+    by_list (k ∷ ks) q i =
+        let same : k ≡ watch = some_one k watch (sym i.0 ∙ e) in
+        let few : length (k ∷ ks) ≤ length links = rw q at (from-length links (length links) from) in
+        let linked : IsList links (link_at links watch) ks = rw same at i.2 in
+        let is : list_from links (length links) (link_at links watch) ≡ ks = list_from-is links (length links) (link_at links watch) ks linked (omega (arith, few)) in
+        record {
+          below = rw same at i.1;
+          list = q ∙ (ap (λ (x : ℕ). x ∷ ks) same ∙ ap (λ (xs : List ℕ). watch ∷ xs) (sym is));
+          rest = rw is linked;
+        }
+
+-- the walk goes on behind the first watch that is out
+pub walk-on : (links : List (Option ℕ)) (head from last next : Option ℕ) (watch : ℕ) → from ≡ Some watch → next ≡ link_at links watch → IsWalk links head from last → IsWalk links head next from
+walk-on links head from last next watch e n w =
+    let f = next-from links from watch e w.out in
+    let xs = w.before ++ option_to_list last in
+    let rest = list_from links (length links) (link_at links watch) in
+    let some : from ≢ None = λ z. none_some watch (sym z ∙ e) in
+    let list : list_from links (length links) head ≡ (xs ++ watch ∷ []) ++ rest = w.rest some ∙ (ap (λ (ys : List ℕ). xs ++ ys) f.list ∙ sym (append_assoc xs (watch ∷ []) rest)) in
+    let one : option_to_list from ≡ watch ∷ [] = ap (λ (o : Option ℕ). option_to_list o) e in
+    record {
+      before = xs;
+      out = rw n f.rest;
+      rest = λ m. list ∙ (ap (λ (ys : List ℕ). (xs ++ ys) ++ rest) (sym one) ∙ ap (λ (o : Option ℕ). (xs ++ option_to_list from) ++ list_from links (length links) o) (sym n));
+      none = λ m. absurd (some m);
+    }
+
 -- the code's values after a watch was added
 pub added : (heads links more : List (Option ℕ)) (keys longer : List ℕ) (key list watch : ℕ) (to : Option ℕ) → AreLinked heads links keys → list ≡ key → watch ≡ length links → key < length heads → to ≡ link_at heads list → more ≡ links ++ to ∷ [] → longer ≡ keys ++ key ∷ [] → AreLinked (set heads list (Some watch)) more longer
 added heads links more keys longer key list watch to c e n l t m k = rw (m, k, t, n, e) (from-linked _ _ _ _ (add-linked heads links keys c.lists key l (to-linked heads links keys c)))
@@ -414,18 +460,11 @@ pub record IsPut (heads links : List (Option ℕ)) (keys : List ℕ) (walked : �
 pub stayed : (heads links : List (Option ℕ)) (keys : List ℕ) (walked watch : ℕ) (taken last next : Option ℕ) (out : List ℕ) → AreLinked heads links keys → IsWalk links (link_at heads walked) taken last → list_from links (length links) taken ≡ watch ∷ out → next ≡ link_at links watch → IsPut heads links keys walked next taken out
 stayed heads links keys walked watch taken last next out c w f n =
     let first = first-is heads links keys walked watch taken last out c w f in
-    let xs = w.before ++ option_to_list last in
-    let once : AreOnce out = (once-back xs (watch ∷ out) (rw first.list at (c.once walked))).1 in
-    let is : list_from links (length links) next ≡ out = rw n (once-is links (link_at links watch) out first.rest once) in
+    let list : watch ∷ list_from links (length links) (link_at links watch) ≡ watch ∷ out = sym (next-from links taken watch first.is w.out).list ∙ f in
     record {
       linked = c;
-      walk = record {
-        before = xs;
-        out = rw is (rw n first.rest);
-        rest = λ m. rw (is, first.is) (list-is heads links keys c.lists (to-linked heads links keys c) walked ∙ (first.list ∙ sym (append_assoc xs (watch ∷ []) out)));
-        none = λ m. absurd (none_some watch (sym m ∙ first.is));
-      };
-      out_is = is;
+      walk = walk-on links (link_at heads walked) taken last next watch first.is n w;
+      out_is = ap (λ (o : Option ℕ). list_from links (length links) o) n ∙ ap (λ (xs : List ℕ). drop 1 xs) list;
     }
 
 pub moved : (heads links : List (Option ℕ)) (keys : List ℕ) (walked watch key : ℕ) (taken last next to : Option ℕ) (out : List ℕ) → AreLinked heads links keys → IsWalk links (link_at heads walked) taken last → list_from links (length links) taken ≡ watch ∷ out → next ≡ link_at links watch → (key ≡ walked → ⊥) → key < length heads → walked < length heads → to ≡ link_at (heads_past heads walked last next) key → IsPut (set (heads_past heads walked last next) key (Some watch)) (set (links_past links last next) watch to) (set keys watch key) walked next last out

@@ -1,4 +1,4 @@
-use Rattle.std.proofs.Common.{◌≡◌, ◌≢◌, ℕ, ◌+◌, ◌-◌, ◌/◌, ◌%◌, ◌<◌, ◌≤◌, ◌↔◌, ◌⊎◌, inl, inr, Bool, true, false, not, ◌||◌, List, [], ◌∷◌, ◌++◌, length, take, set, get_or, Some, refl, sym, ap, subst, ◌∙◌, arith}
+use Rattle.std.proofs.Common.{◌≡◌, ◌≢◌, ℕ, ◌+◌, ◌-◌, ◌/◌, ◌%◌, ◌<◌, ◌≤◌, ◌↔◌, ◌⊎◌, inl, inr, Bool, true, false, not, ◌||◌, cond, List, [], ◌∷◌, ◌++◌, length, take, set, get_or, Some, refl, sym, ap, subst, ◌∙◌, arith}
 use Rattle.std.specs.Prelude.{nat_eq}
 use Rattle.std.proofs.lemmas.Bool.{false≢true, cases_eq}
 use Rattle.std.proofs.lemmas.Bool.Decides.{nat_tests}
@@ -10,9 +10,9 @@ use Rattle.spec_node.specs.Value.{is_true, is_false, open_count, left_literal}
 use Rattle.spec_node.specs.Batch.{is_in_batch}
 use Rattle.mal_watch.specs.WatchLists.{Has, AreOnce, IsAt}
 use Rattle.mal_store.specs.Arena.{no_clause}
-use Rattle.mal_watch.specs.Watching.{clause_of, partner, IsOther, AreOthersFalse, IsSettled, other_key, IsWatching, IsWatchKept}
+use Rattle.mal_watch.specs.Watching.{clause_of, partner, from_open, IsOther, AreOthersFalse, IsSettled, other_key, IsWatching, IsWatchKept}
 use Rattle.mal_watch.specs.Going.{Turns, Goes}
-use Rattle.mal_watch.specs.Finding.{is_pending, found_at}
+use Rattle.mal_watch.specs.Finding.{is_pending, found_at, found_in}
 use Rattle.mal_watch.specs.declared.found.Found.{Found}
 use Rattle.mal_watch.proofs.HasLemmas.{has-none, has-head, has-tail, has-cases, has-other}
 use Rattle.mal_watch.proofs.FalseLemmas.{true-more, false-more, open-less}
@@ -321,12 +321,33 @@ stays : (es : List TrailEntry) (q f lists : ℕ) (watched : List NumberedClause)
 stays es q f lists watched keys rest k g = let here = g.left_is k (has-head k k rest refl) in ap (λ (x : ℕ). set keys k x) (sym here.1) ∙ set-get_or keys k 0
 
 -- the other watched literal is true
-pub visit-spared : (es : List TrailEntry) (q f lists : ℕ) (watched : List NumberedClause) (keys rest : List ℕ) (k : ℕ) → Turns es q f → Goes es q f lists watched keys (k ∷ rest) → is_true (take q es) (other_key keys k) ≡ true → Visited es q f lists watched (set keys k f) rest k []
+visit-spared : (es : List TrailEntry) (q f lists : ℕ) (watched : List NumberedClause) (keys rest : List ℕ) (k : ℕ) → Turns es q f → Goes es q f lists watched keys (k ∷ rest) → is_true (take q es) (other_key keys k) ≡ true → Visited es q f lists watched (set keys k f) rest k []
 visit-spared es q f lists watched keys rest k t g u =
     let here = g.left_is k (has-head k k rest refl) in
     let has_o : Has (clause_of watched k).lits (other_key keys k) = other-has lists watched keys k g.watching here.0 in
     let no = true-not-pending es q (clause_of watched k) (other_key keys k) t.some t.within has_o u (t.clear (other_key keys k) u) in
     record { goes = rw (stays es q f lists watched keys rest k g) (goes-done es q f lists watched keys rest k g (λ z. inr u)); finds = rw no refl }
+
+-- and of the first that are left, one after another
+pub record AreSpared (es : List TrailEntry) (q f lists : ℕ) (watched : List NumberedClause) (keys left rest : List ℕ) : Type 0 where
+  pub goes : Goes es q f lists watched keys rest
+  pub finds : found_in (take q es) es watched rest ≡ found_in (take q es) es watched left
+  pub fewer : length rest ≤ length left
+
+pub spared : (es : List TrailEntry) (q f lists : ℕ) (watched : List NumberedClause) (keys left : List ℕ) → Turns es q f → Goes es q f lists watched keys left → AreSpared es q f lists watched keys left (from_open (take q es) keys left)
+spared es q f lists watched keys [] t g = record { goes = g; finds = refl; fewer = omega arith }
+spared es q f lists watched keys (k ∷ ks) t g = by_test (is_true (take q es) (other_key keys k)) refl (λ h. spared es q f lists watched keys ks t h)
+  where
+    by_test : (b : Bool) → is_true (take q es) (other_key keys k) ≡ b → (Goes es q f lists watched keys ks → AreSpared es q f lists watched keys ks (from_open (take q es) keys ks)) → AreSpared es q f lists watched keys (k ∷ ks) (cond b (from_open (take q es) keys ks) (k ∷ ks))
+    by_test true e rest =
+        let v = visit-spared es q f lists watched keys ks k t g e in
+        let r = rest (rw (stays es q f lists watched keys ks k g) at v.goes) in
+        record {
+          goes = r.goes;
+          finds = r.finds ∙ ap (λ (fs : List Found). fs ++ found_in (take q es) es watched ks) (sym v.finds);
+          fewer = omega (arith, r.fewer);
+        }
+    by_test false e rest = record { goes = g; finds = refl; fewer = omega arith }
 
 visit-false : (es : List TrailEntry) (q f lists : ℕ) (watched : List NumberedClause) (keys rest : List ℕ) (k : ℕ) → Turns es q f → Goes es q f lists watched keys (k ∷ rest) → AreOthersFalse (take q es) (other_key keys k) (clause_of watched k).lits → is_false (take q es) (other_key keys k) ≡ true → Visited es q f lists watched (set keys k f) rest k []
 visit-false es q f lists watched keys rest k t g o e =

@@ -1,4 +1,4 @@
-use Rattle.std.specs.Prelude.{◌≡◌, ◌≢◌, ℕ, ◌+◌, ◌-◌, ◌/◌, ◌%◌, ◌<◌, ◌⊎◌, true, false, ◌==◌, if◌then◌else◌, List, length, slice_index, slice_index_or}
+use Rattle.std.specs.Prelude.{◌≡◌, ◌≢◌, ℕ, ◌+◌, ◌-◌, ◌/◌, ◌%◌, ◌<◌, ◌⊎◌, true, false, ◌==◌, if◌then◌else◌, List, [], ◌∷◌, length, slice_index, slice_index_or}
 use Rattle.mal_base.specs.NumberedClause.{NumberedClause}
 use Rattle.mal_base.specs.declared.trail_entry.TrailEntry.{TrailEntry}
 use Rattle.spec_node.specs.Value.{is_true, is_false}
@@ -32,6 +32,11 @@ AreOthersFalse prefix other lits = (x : ℕ) → Has lits x → x ≢ other → 
 -- the literal of the other watch of a clause
 abbrev pub other_key : List ℕ → ℕ → ℕ
 other_key keys watch = slice_index keys (partner watch)
+
+-- watches from the first one on of whose clause the other watched literal is not true
+abbrev pub from_open : List TrailEntry → List ℕ → List ℕ → List ℕ
+from_open prefix keys [] = []
+from_open prefix keys (k ∷ ks) = if is_true prefix (other_key keys k) then from_open prefix keys ks else k ∷ ks
 
 -- beside a literal nothing of a clause is to be watched: it is true, or each other literal is false
 abbrev pub IsSettled : List TrailEntry → ℕ → List ℕ → Type 0

@@ -3,21 +3,13 @@
 ghost use Rattle.std.specs.Prelude.{◌≡◌, ◌+◌, ◌≤◌, ◌<◌, [], ◌++◌, length, take, drop, ◌∷◌, slice_index, slice_index_or, MatchOption, vec_len, vec_capacity};
 ghost use Rattle.std.specs.Option.{option_to_list};
 ghost use Rattle.mal_store.specs.Arena.{no_clause};
-ghost use Rattle.mal_watch.specs.{Watching.{partner, IsOther, AreOthersFalse}, Going.{Turns, Goes}, Finding.{found_at, found_in}};
+ghost use Rattle.mal_watch.specs.{Watching.{IsOther, AreOthersFalse}, Going.{Turns, Goes}, Finding.{found_at, found_in}};
 
 use crate::found::Found;
-use crate::watch_lists::WatchLists;
+use crate::watch_lists::{WatchLists, partner};
 use mal_base::Lit;
 use mal_store::Store;
 use mal_trail::Trail;
-
-/// The other of the two watches of a clause.
-fn partner(watch: usize) -> usize
-    ensures { result ≡ partner watch }
-{
-    // The two differ in the last bit.
-    watch ^ 1
-}
 
 /// The place of the first literal that may be watched in another's place: not this one, and not false under the first
 /// entries of the trail, so many.
@@ -85,8 +77,8 @@ fn replacement(
 }
 
 /// Visits the first watch that is out, which is of the literal that became false by the last of the first entries, so
-/// many: it goes to another literal that is not false, or back. It goes back too where the other watched literal
-/// is true under the first entries. Where that one alone is left, and not true, the clause is found.
+/// many: it goes to another literal that is not false, or back. Where the other watched literal alone is left, and not
+/// true, the clause is found.
 fn visit(
     lists: &mut WatchLists,
     store: &mut Store,
@@ -110,12 +102,6 @@ fn visit(
 {
     let clause = watch / 2;
     let other = lists.key(partner(watch));
-    if trail.is_true_before(count, other) {
-        // The watch stays, and the clause is not looked at: a cut that takes that literal away takes the false one away
-        // first.
-        lists.put(watch, lit);
-        return None;
-    }
     match replacement(store, trail, count, clause, other) {
         Some(place) => {
             lists.put(watch, store.long_lits(clause)[place]);
@@ -158,10 +144,12 @@ pub fn walk(
     ensures lists_room { lists.new.room ≡ lists.old.room }
     ensures capacity { vec_capacity found.new ≡ vec_capacity found.old }
 {
+    lists.spare(trail, count);
     while let Some(watch) = lists.first() {
         match visit(lists, store, trail, count, lit, watch) {
             Some(clause) => found.push_reserved(clause),
             None => {}
         }
+        lists.spare(trail, count);
     }
 }

@@ -1,13 +1,14 @@
 //! Lists of watches, linked in place: a watch moves from one list to another without memory, and nothing is written for
 //! one that stays.
 
-ghost use Rattle.std.specs.Prelude.{◌≡◌, ℕ, ◌+◌, ◌≤◌, ◌<◌, [], ◌∷◌, ◌++◌, length, drop, replicate, slice_index, slice_set, None, OnOk, MatchOption, ◌↔◌, vec_len, vec_capacity};
+ghost use Rattle.std.specs.Prelude.{◌≡◌, ℕ, ◌+◌, ◌≤◌, ◌<◌, [], ◌∷◌, ◌++◌, length, take, drop, replicate, Option, slice_index, slice_set, None, OnOk, MatchOption, ◌↔◌, vec_len, vec_capacity};
 ghost use Rattle.std.specs.List.Sorted.{IsNonDecreasing};
-ghost use Rattle.mal_watch.specs.{Leaving.{pairs_left}, Watches.{links_of, keys_of}, WatchLists.{Has, AreOnce, IsAt, AreLinked, AreListed}};
+ghost use Rattle.mal_watch.specs.{Leaving.{pairs_left}, Watches.{links_of, keys_of}, WatchLists.{Has, AreOnce, IsAt, list_from, IsList, AreLinked, IsWalk, AreListed}, Watching.{partner, from_open}};
 
 use crate::link::Link;
 use mal_base::{ClauseId, Lit, grown};
 use mal_store::{Store, is_among};
+use mal_trail::Trail;
 use std::alloc::{AllocError, Global};
 use std::marker::Model;
 
@@ -138,6 +139,22 @@ impl WatchLists {
         self.taken.watch()
     }
 
+    /// Puts back the first of the watches taken out, as many as stay since the other watched literal of their clause is
+    /// true under the first entries of the trail, so many. Clauses have two watches each, in order.
+    pub fn spare(&mut self, trail: &Trail, count: usize)
+        requires count { count ≤ length trail.now.entries }
+        requires paired { (k : ℕ) → k < length self.old.keys → partner k < length self.old.keys }
+        ensures out { self.new.out ≡ from_open (take count trail.now.entries) self.old.keys self.old.out }
+        ensures keys { self.new.keys ≡ self.old.keys }
+        ensures lists { self.new.count ≡ self.old.count }
+        ensures room { self.new.room ≡ self.old.room }
+    {
+        // The clauses are not looked at: a cut that takes the other literal away takes the false one away first.
+        let (taken, last) = passed(self.watches.as_slice(), trail, count, self.taken, self.last);
+        self.taken = taken;
+        self.last = last;
+    }
+
     /// Puts the first of the watches taken out into the list of a literal.
     pub fn put(&mut self, watch: usize, key: Lit)
         requires first { self.old.out ≡ watch ∷ drop 1 self.old.out }
@@ -181,6 +198,40 @@ impl WatchLists {
         self.taken = Link::none();
         link_all(&mut self.heads, &mut self.watches);
     }
+}
+
+/// The other of the two watches of a clause.
+pub fn partner(watch: usize) -> usize
+    ensures { result ≡ partner watch }
+{
+    // The two differ in the last bit.
+    watch ^ 1
+}
+
+/// Passes the watches from one on along the links while the other watched literal of their clause is true under the
+/// first entries of the trail, so many. The result is the first that is not passed, and the one before it.
+fn passed(watches: &[Watch], trail: &Trail, count: usize, from: Link, before: Link) -> (Link, Link)
+    requires count { count ≤ length trail.now.entries }
+    requires list { IsList (links_of watches.now) from
+        (list_from (links_of watches.now) (length (links_of watches.now)) from) }
+    requires paired { (k : ℕ) → k < length watches.now → partner k < length watches.now }
+    ensures rest { list_from (links_of watches.now) (length (links_of watches.now)) result.0
+        ≡ from_open (take count trail.now.entries) (keys_of watches.now)
+        (list_from (links_of watches.now) (length (links_of watches.now)) from) }
+    ensures walk { (head : Option ℕ) → IsWalk (links_of watches.now) head from before
+        → IsWalk (links_of watches.now) head result.0 result.1 }
+{
+    let mut taken = from;
+    let mut last = before;
+    // Nearly all watches are passed here, so the loop writes nothing.
+    while let Some(watch) = taken.watch() {
+        if !trail.is_true_before(count, watches[partner(watch)].key) {
+            return (taken, last);
+        }
+        last = taken;
+        taken = watches[watch].next;
+    }
+    (taken, last)
 }
 
 /// Keeps of watches, two for each long clause, those of the clauses without these numbers, which rise. Takes no memory.

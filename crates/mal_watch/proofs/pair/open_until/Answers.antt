@@ -1,4 +1,4 @@
-use Rattle.std.proofs.Common.{◌≤◌, ◌∙◌, arith}
+use Rattle.std.proofs.Common.{◌∙◌, arith}
 use Rattle.mal_watch.proofs.FalseLemmas.{below-least}
 use Rattle.mal_watch.proofs.pair.open_until.Goals as goal
 

@@ -4,9 +4,9 @@ use Rattle.spec_node.specs.Value.{is_true, is_false}
 use Rattle.mal_watch.specs.Watching.{clause_of, other_key, IsOther, IsSettled}
 use Rattle.mal_watch.proofs.HasLemmas.{has-head}
 use Rattle.mal_watch.proofs.WalkLemmas.{partner-below, clause-below}
-use Rattle.mal_watch.proofs.TurnLemmas.{Visited, visit-spared, visit-moved, visit-settled, visit-left, two-watched}
+use Rattle.mal_watch.proofs.TurnLemmas.{Visited, visit-moved, visit-settled, visit-left, two-watched}
 use Rattle.mal_watch.proofs.walk.visit.Goals as goal
-use Rattle.mal_watch.proofs.walk.visit.Goals.{After-put, After-keep_search_start, After-long_id, Joined-else-not-is_false_before, else-not-is_false_before-via-then-not-is_false_before+else-not-is_true, else-not-is_false_before-via-else-not-is_false_before}
+use Rattle.mal_watch.proofs.walk.visit.Goals.{After-keep_search_start, After-long_id, Joined-else-not-is_false_before, else-not-is_false_before-via-then-not-is_false_before+else-not-is_true, else-not-is_false_before-via-else-not-is_false_before}
 
 pub key-other-requires : goal.key-other-requires
 key-other-requires c =
@@ -23,25 +23,6 @@ replacement-requires-clause-two c =
     let s = c.args.lists.now in
     let other : c.key-other.result ≡ other_key s.keys c.args.watch = rw c.partner.ensures at c.key-other.ensures in
     rw other (two-watched c.args.trail.now.entries c.args.count c.args.lit s.count c.args.store.now.long s.keys (drop 1 s.out) c.args.watch c.requires.turns c.requires.goes)
-
-pub put-requires-clause-list : goal.put-requires-clause-list
-put-requires-clause-list c =
-    let here = c.requires.goes.left_is c.args.watch (has-head c.args.watch c.args.watch (drop 1 c.args.lists.now.out) refl) in
-    c.requires.goes.watching.below c.args.watch c.args.lit (rw here.1 at (c.requires.goes.watching.own c.args.watch here.0))
-
--- the other literal is true
-spared : (c : After-put) → Visited c.args.trail.now.entries c.args.count c.args.lit c.args.lists.now.count c.args.store.now.long (set c.args.lists.now.keys c.args.watch c.args.lit) (drop 1 c.args.lists.now.out) c.args.watch []
-spared c =
-    let s = c.args.lists.now in
-    let other : c.key-other.result ≡ other_key s.keys c.args.watch = rw c.partner.ensures at c.key-other.ensures in
-    let holds : is_true (take c.args.count c.args.trail.now.entries) (other_key s.keys c.args.watch) ≡ true = rw (← other) (sym c.is_true_before.ensures ∙ c.if-is_true_before.true) in
-    visit-spared c.args.trail.now.entries c.args.count c.args.lit s.count c.args.store.now.long s.keys (drop 1 s.out) c.args.watch c.requires.turns c.requires.goes holds
-
-pub returns-then-is_true_before-clause-goes : goal.returns-then-is_true_before-clause-goes
-returns-then-is_true_before-clause-goes c = rw (c.put.ensures.keys, c.put.ensures.lists) (spared c).goes
-
-pub returns-then-is_true_before-clause-found : goal.returns-then-is_true_before-clause-found
-returns-then-is_true_before-clause-found c = sym (spared c).finds
 
 pub put-requires-in-None-clause-list : goal.put-requires-in-None-clause-list
 put-requires-in-None-clause-list c =
@@ -60,7 +41,7 @@ moved c =
     visit-moved c.args.trail.now.entries c.args.count c.args.lit s.count watched s.keys (drop 1 s.out) c.args.watch c.index-long_lits-place.result c.requires.turns c.requires.goes free
 
 pub returns-in-Some-clause-goes : goal.returns-in-Some-clause-goes
-returns-in-Some-clause-goes c = rw (c.put-in-Some.ensures.keys, c.put-in-Some.ensures.lists) (moved c).goes
+returns-in-Some-clause-goes c = rw (c.put.ensures.keys, c.put.ensures.lists) (moved c).goes
 
 pub returns-in-Some-clause-found : goal.returns-in-Some-clause-found
 returns-in-Some-clause-found c = sym (moved c).finds
