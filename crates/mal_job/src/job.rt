@@ -385,17 +385,26 @@ impl Job {
         ensures ok { OnOk result (self.new ≡ and_own self.old (Finished index Ran)) }
         ensures err { OnErr result (self.new ≡ self.old) }
     {
-        let kept = Kept::Gone(self.tree.grown(index)?);
-        finish_run(
-            &mut self.questions,
-            &mut self.tree,
-            &mut self.log,
-            index,
-            kept,
-            lines,
-            answer,
-        );
-        Ok(())
+        match self.tree.grown(index) {
+            Ok(grown) => {
+                finish_run(
+                    &mut self.questions,
+                    &mut self.tree,
+                    &mut self.log,
+                    index,
+                    Kept::Gone(grown),
+                    lines,
+                    answer,
+                );
+                Ok(())
+            }
+            Err(error) => {
+                // For the proof.
+                drop(lines);
+                drop(answer);
+                Err(error)
+            }
+        }
     }
 
     /// Ends the start that is out at this index as one that wanted for memory where it was run. The node is gone where

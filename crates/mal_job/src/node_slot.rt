@@ -242,10 +242,11 @@ impl NodeSlot {
         ensures { self.new ≡ ran_home self.old }
     {
         match mem::replace(&mut self.whereabouts, whereabouts_of(kept)) {
-            Whereabouts::Home(_) => {}
-            Whereabouts::Cold(_) => {}
+            // For the proof, which need not tell how each part ends.
+            Whereabouts::Home(suspended) => drop(suspended),
+            Whereabouts::Cold(frozen) => drop(frozen),
             Whereabouts::Gone => {}
-            Whereabouts::Out(_, grown) => self.journal = grown,
+            Whereabouts::Out(_, grown) => drop(mem::replace(&mut self.journal, grown)),
         }
     }
 
@@ -313,7 +314,8 @@ pub fn rebuilt(journal: Journal, scratch: &mut Scratch) -> Result<Vec<u8>, Alloc
 fn move_to(whereabouts: &mut Whereabouts, next: Whereabouts)
     ensures { whereabouts.new ≡ next }
 {
-    *whereabouts = next;
+    // For the proof, which need not tell how what was there ends.
+    drop(mem::replace(whereabouts, next));
 }
 
 /// Where a node is of which these bytes are there: as bytes where they are no more than `FROZEN_BYTES`, else live.

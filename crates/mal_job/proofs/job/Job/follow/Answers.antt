@@ -47,5 +47,5 @@ ended c =
 pub invariant_of-self : goal.invariant_of-self
 invariant_of-self c = (ended c).kept
 
-pub returns-clause-ok : goal.returns-clause-ok
-returns-clause-ok c = (ended c).view ∙ ap (λ (v : JobView). and_own v (Finished c.args.index Ran)) c.self.view_is
+pub returns-in-Ok-clause-ok : goal.returns-in-Ok-clause-ok
+returns-in-Ok-clause-ok c = (ended c).view ∙ ap (λ (v : JobView). and_own v (Finished c.args.index Ran)) c.self.view_is
