@@ -1,8 +1,8 @@
 //! What a hint does.
 
-ghost use Rattle.std.specs.Prelude.{◌≡◌, Some};
+ghost use Rattle.std.specs.Prelude.{◌≡◌, Some, if◌then◌else◌};
 ghost use Rattle.std.specs.List.{list_any};
-ghost use Rattle.spec_logic.specs.Derivation.{is_true, left_of, effect_of, effect_of_lits, effect_of_left};
+ghost use Rattle.spec_logic.specs.Derivation.{is_true, effect_of, effect_of_lits, Effect.{Passes, LeavesMore}};
 ghost use Rattle.mal_check.specs.CheckAnswers.{effect_seen};
 
 use crate::trues::Trues;
@@ -28,14 +28,36 @@ pub fn effect_of(trues: &Trues, clause: &Option<Clause>) -> Effect
     }
 }
 
-/// What the clause of these literals does.
+/// What the clause of these literals does. Each literal is looked at once.
 fn effect_of_lits(trues: &Trues, lits: &[Lit]) -> Effect
     ensures { effect_seen result ≡ effect_of_lits trues.now lits.now }
 {
-    if has_true(trues, lits) {
+    let mut left = None;
+    for (index, lit) in lits.iter().enumerate() {
+        if trues.is_true(*lit) {
+            return Effect::Passes;
+        }
+        if !trues.is_false(*lit) {
+            match left {
+                None => left = Some(*lit),
+                Some(_) => return effect_of_more(trues, &lits[index + 1..]),
+            }
+        }
+    }
+    match left {
+        None => Effect::Conflicts,
+        Some(lit) => Effect::Makes(lit),
+    }
+}
+
+/// What a clause does of which two literals are left and these stand behind them, where none before these is true.
+fn effect_of_more(trues: &Trues, behind: &[Lit]) -> Effect
+    ensures { effect_seen result ≡ (if list_any (is_true trues.now) behind.now then Passes else LeavesMore) }
+{
+    if has_true(trues, behind) {
         Effect::Passes
     } else {
-        effect_of_left(trues, lits)
+        Effect::LeavesMore
     }
 }
 
@@ -44,23 +66,4 @@ fn has_true(trues: &Trues, lits: &[Lit]) -> bool
     ensures { result ≡ list_any (is_true trues.now) lits.now }
 {
     lits.iter().any(|lit| trues.is_true(*lit))
-}
-
-/// What the clause of these literals does, where none of them is true.
-fn effect_of_left(trues: &Trues, lits: &[Lit]) -> Effect
-    ensures { effect_seen result ≡ effect_of_left (left_of trues.now lits.now) }
-{
-    let mut left = None;
-    for lit in lits {
-        if !trues.is_false(*lit) {
-            match left {
-                None => left = Some(*lit),
-                Some(_) => return Effect::LeavesMore,
-            }
-        }
-    }
-    match left {
-        None => Effect::Conflicts,
-        Some(lit) => Effect::Makes(lit),
-    }
 }

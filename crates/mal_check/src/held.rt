@@ -1,9 +1,9 @@
 //! The clauses of a checker.
 
-ghost use Rattle.std.specs.Prelude.{◌≡◌, ◌≤◌, ◌+◌, ◌*◌, ℕ, ◌∷◌, ◌++◌, ◌==◌, [], None, length, if◌then◌else◌, OnOk, OnErr};
+ghost use Rattle.std.specs.Prelude.{◌≡◌, ◌≤◌, ◌+◌, ◌*◌, ℕ, ◌∷◌, ◌++◌, ◌==◌, [], None, Some, length, if◌then◌else◌, OnOk, OnErr};
 ghost use Rattle.std.specs.{List.{list_any}, Option.{option_map}};
 ghost use Rattle.spec_logic.specs.Refutation.{with_clause, without};
-ghost use Rattle.mal_check.specs.{Places.{IsShort, clause_at, place_in, no_places}, Checked.{held}};
+ghost use Rattle.mal_check.specs.{Places.{IsPlace, IsShort, clause_at, place_in, no_places}, Checked.{held}};
 
 use crate::places::PlaceTable;
 use mal_base::{Clause, ClauseId};
@@ -54,7 +54,7 @@ impl Clauses {
     {
         match self.ids.get(id) {
             None => None,
-            Some(place) => clause_at(self.originals.as_slice(), self.added.as_slice(), place),
+            Some(place) => Some(clause_at(self.originals.as_slice(), self.added.as_slice(), place)),
         }
     }
 
@@ -119,17 +119,18 @@ impl Clauses {
     }
 }
 
-/// The clause at a place.
+/// The clause at a place that has one.
 fn clause_at<'a>(
     originals: &'a [Option<Clause>],
     added: &'a [Option<Clause>],
     place: Place,
-) -> Option<&'a Option<Clause>>
-    ensures { option_map (λ c. c.now) result ≡ clause_at originals.now added.now place }
+) -> &'a Option<Clause>
+    requires { IsPlace originals.now added.now place }
+    ensures { Some result.now ≡ clause_at originals.now added.now place }
 {
     match place {
-        Place::Original(n) => originals.get(n),
-        Place::Added(n) => added.get(n),
+        Place::Original(n) => &originals[n],
+        Place::Added(n) => &added[n],
     }
 }
 
