@@ -2,4 +2,5 @@
 mod Digits
 mod Fronts
 mod Listing
+mod Plain
 mod Texts

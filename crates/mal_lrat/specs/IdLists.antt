@@ -1,5 +1,5 @@
 -- The numbers at the end of a line, as they are read in one go.
-use Rattle.std.specs.Prelude.{ℕ, Bool, ◌||◌, List, ℤ, nat_le, if◌then◌else◌, Option, Some, None, Result, Ok, Err}
+use Rattle.std.specs.Prelude.{ℕ, Bool, ◌||◌, List, ◌++◌, ℤ, nat_le, if◌then◌else◌, Option, Some, None, Result, Ok, Err}
 use Rattle.std.specs.List.{list_any}
 use Rattle.std.specs.Option.{option_map}
 use Rattle.spec_text.specs.Numbers.{number_in}
@@ -26,6 +26,11 @@ listing l = record { ids = l.ids.items; negative = l.has_negative; closed = l.is
 -- what words say, none where one says no number
 abbrev pub list_said : List (List ℕ) → Option Listed
 list_said words = option_map listed (numbers_of words)
+
+-- a list with what was read before in front of it
+abbrev pub continued : List ℕ → Bool → Option Listed → Option Listed
+continued ids negative None = None
+continued ids negative (Some l) = Some (record { ids = ids ++ l.ids; negative = negative || l.negative; closed = l.closed })
 
 -- a number was negative before, or one of these is
 abbrev pub negative_behind : Bool → List ℤ → Bool

@@ -1,11 +1,12 @@
 //! Reading a line of a proof.
 
-ghost use Rattle.std.specs.Prelude.{◌≡◌, ◌==◌, ◌<◌, Some, length, IfOk, IfSome};
+ghost use Rattle.std.specs.Prelude.{◌≡◌, ◌==◌, ◌<◌, ◌≤◌, ◌^◌, false, Some, length, IfOk, IfSome};
 ghost use Rattle.std.specs.Option.{option_map};
-ghost use Rattle.spec_text.specs.{Inputs.{words_of}, Numbers.{number_in}};
+ghost use Rattle.spec_text.specs.{Inputs.{words_of}, Numbers.{number_in, is_digit}};
+ghost use Rattle.mal_text.specs.Numbers.{BeginsWithDigits};
 ghost use Rattle.spec_dimacs.specs.Merged.{clause_of};
 ghost use Rattle.spec_lrat.specs.{Reading.{greatest_id, behind_l, before_end, behind_end, numbers_of, literals_of, id_said, deleting, added, behind_id, reading_of, reading}, Grammar.{Spells}};
-ghost use Rattle.mal_lrat.specs.{LineView.{seen}, IdLists.{listing, list_said, negative_behind, adding_listed, literal_or_end}, Answers.{Gives, GivesWords, CutsNumber}};
+ghost use Rattle.mal_lrat.specs.{LineView.{seen}, IdLists.{listing, list_said, continued, negative_behind, adding_listed, literal_or_end}, Answers.{Gives, GivesWords, CutsNumber}};
 
 use crate::fault::LineFault;
 use crate::line::Line;
@@ -18,6 +19,10 @@ const GREATEST_ID: u64 = 1 << 62;
 
 /// Room for ids is made at once for so many bytes each; more room is made where they are shorter.
 const BYTES_OF_ID: usize = 5;
+
+/// The greatest number to which a digit is put where ids are written as most are; that of a solver's clause, 2^32 and more,
+/// is still one. A test against a number below 2^31 is the cheaper one.
+const MOST: u64 = 2_000_000_000;
 
 /// The numbers at the end of a line, as they are read: the ids before the first 0, which are magnitudes; whether one of
 /// all numbers is negative; and whether the last one is 0 and no other.
@@ -197,8 +202,8 @@ fn id_list(alloc: Global, words: &[u8]) -> Result<IdList, LineFault>
     ensures { GivesWords listing result (list_said (words_of words.now)) }
 {
     let mut ids = Vec::with_capacity(alloc, words.len() / BYTES_OF_ID)?;
+    let mut rest = plain_ids(&mut ids, words)?;
     let mut has_negative = false;
-    let mut rest = words;
     while let Some((number, behind)) = first_number(rest)? {
         match ClauseId::of(number.unsigned_abs()) {
             Some(id) => {
@@ -221,6 +226,56 @@ fn id_list(alloc: Global, words: &[u8]) -> Result<IdList, LineFault>
         has_negative,
         is_closed: false,
     })
+}
+
+/// Puts the ids that words begin with behind others, as long as each is written as most are, and gives the words behind
+/// them. All that is not written so is left to the readers of any number.
+fn plain_ids<'a>(ids: &mut Vec<ClauseId>, words: &'a [u8]) -> Result<&'a [u8], AllocError>
+    ensures { IfOk result (λ rest. continued ids.new.items false (list_said (words_of rest.now))
+        ≡ continued ids.old.items false (list_said (words_of words.now))) }
+{
+    let mut rest = words;
+    while let Some((number, after)) = plain_number(rest) {
+        match ClauseId::of(number) {
+            Some(id) => {
+                ids.reserve(1)?;
+                ids.push_reserved(id);
+            }
+            None => return Ok(rest),
+        }
+        rest = after;
+    }
+    Ok(rest)
+}
+
+/// The number that a line begins with, where it is above 0 and not large and has digits alone and a space behind them, and
+/// the line behind the space. None says nothing of the line.
+fn plain_number(line: &[u8]) -> Option<(u64, &[u8])>
+    ensures number { IfSome result (λ cut. BeginsWithDigits line.now cut.0 cut.1.now) }
+    ensures bound { IfSome result (λ cut. cut.0 ≤ 2 ^ 62) }
+    ensures shorter { IfSome result (λ cut. length cut.1.now < length line.now) }
+{
+    let mut value: u64 = 0;
+    for (index, byte) in line.iter().enumerate() {
+        if !is_digit(*byte) {
+            if value == 0 || *byte != b' ' {
+                return None;
+            }
+            return Some((value, &line[index + 1..]));
+        }
+        if value > MOST {
+            return None;
+        }
+        value = value * 10 + (u64::from(*byte) - u64::from(b'0'));
+    }
+    None
+}
+
+/// Whether a byte is a decimal digit.
+fn is_digit(byte: u8) -> bool
+    ensures { result ≡ is_digit byte }
+{
+    b'0' <= byte && byte <= b'9'
 }
 
 /// Whether a number was negative before, or one of those that these words say is.
