@@ -1,11 +1,10 @@
 -- A line of numbers in a block of a job.
-use Rattle.std.proofs.Common.{◌≡◌, ℕ, Bool, true, false, ◌==◌, ◌||◌, List, ◌∷◌, Option, Some, None, refl, arith}
+use Rattle.std.proofs.Common.{◌≡◌, ℕ, true, false, ◌==◌, ◌||◌, List, ◌∷◌, Option, Some, None, refl, arith}
 use Rattle.std.specs.Prelude.{is_some}
 use Rattle.std.proofs.lemmas.Bool.Decides.{nat_tests}
-use Rattle.spec_text.specs.Inputs.{words_of}
 use Rattle.spec_text.specs.Numbers.{is_digit}
 use Rattle.mal_text.specs.Numbers.{begins_number}
-use Rattle.mal_text.proofs.Fronts.{HasFirst, first_of_number}
+use Rattle.mal_text.proofs.Fronts.{first_of_number}
 use Rattle.spec_dimacs.specs.Reading.{Block}
 use Rattle.spec_script.specs.Limits.{Limits}
 use Rattle.spec_script.specs.Reading.{OpenJob, Reading, after_row}

@@ -5,6 +5,7 @@ use Rattle.std.specs.List.{list_any}
 use Rattle.std.specs.BTreeMap.{BTreeMap}
 use Rattle.std.specs.BTreeMap as tree
 use Rattle.std.specs.Cmp.Lexicographic.{slice_cmp, texts_ties}
+use Rattle.std.specs.Map.{lookup}
 use Rattle.std.specs.Option.{unwrap_or}
 use Rattle.std.specs.declared.cmp.Ordering.{Ordering}
 use Rattle.std.specs.declared.cmp.Ordering.TheVariants.{Less, Equal, Greater}
@@ -78,6 +79,28 @@ taken-more jobs j names names2 counts counts2 place n taken is first second = re
         ∙ count-either (is_of tenant j) n (tree.get name_cmp counts tenant) (jobs_at counts tenant) (same_tenant tenant) refl
         ∙ ap (λ (m : ℕ). m + cond (is_of tenant j) 1 0) (taken.counted tenant)
         ∙ sym (count-push (is_of tenant) jobs j)
+
+-- they are the same where a tenant's number was written as it was
+pub taken-kept : (jobs : List ScriptedJob) (names : BTreeMap (List ℕ × List ℕ) ℕ) (counts counts2 : BTreeMap (List ℕ) ℕ) (tenant : List ℕ) (n : ℕ) → AreTaken jobs names counts → n ≡ jobs_at counts tenant → ((q : List ℕ) → tree.get name_cmp counts2 q ≡ cond (tree.is_at (name_cmp tenant) q) (Some n) (tree.get name_cmp counts q)) → AreTaken jobs names counts2
+taken-kept jobs names counts counts2 tenant n taken is updates = record { named = taken.named; counted = counted }
+  where
+    by_test : (other : List ℕ) (b : Bool) → bytes_eq other tenant ≡ b → unwrap_or (cond b (Some n) (tree.get name_cmp counts other)) 0 ≡ jobs_at counts other
+    by_test other true e = is ∙ ap (jobs_at counts) (sym ((bytes_eq-Decides other tenant).0 e))
+    by_test other false e = refl
+
+    counted : (other : List ℕ) → jobs_at counts2 other ≡ count_by (is_of other) jobs
+    counted other =
+        ap (λ (o : Option ℕ). unwrap_or o 0) (updates other)
+        ∙ ap (λ (b : Bool). unwrap_or (cond b (Some n) (tree.get name_cmp counts other)) 0) (is_eq-text tenant other)
+        ∙ by_test other (bytes_eq other tenant) refl
+        ∙ taken.counted other
+
+-- and where no name came in
+pub taken-unchanged : (jobs : List ScriptedJob) (names names2 : BTreeMap (List ℕ × List ℕ) ℕ) (counts : BTreeMap (List ℕ) ℕ) → AreTaken jobs names counts → tree.IsUnchanged names names2 → AreTaken jobs names2 counts
+taken-unchanged jobs names names2 counts taken same = record { named = named; counted = taken.counted }
+  where
+    named : (tenant name : List ℕ) → is_some (kept_at names2 tenant name) ≡ list_any (is_job tenant name) jobs
+    named tenant name = ap (λ (es : List ((List ℕ × List ℕ) × ℕ)). is_some (lookup (tree.is_at (pair_cmp (tenant, name))) es)) same ∙ taken.named tenant name
 
 -- no tenant has more jobs than there are
 pub few_jobs : (jobs : List ScriptedJob) (names : BTreeMap (List ℕ × List ℕ) ℕ) (counts : BTreeMap (List ℕ) ℕ) (tenant : List ℕ) → AreTaken jobs names counts → length jobs < 2 ^ 63 → jobs_at counts tenant < 2 ^ 63

@@ -4,7 +4,7 @@ ghost use Rattle.std.specs.Prelude.{◌≡◌};
 ghost use Rattle.spec_text.specs.Inputs.{words_of};
 ghost use Rattle.spec_dimacs.specs.Reading as dimacs;
 ghost use Rattle.spec_script.specs.Reading.{in_block};
-ghost use Rattle.mal_script.specs.ReadResult.{Gives, Leaves};
+ghost use Rattle.mal_script.specs.ReadResult.{Leaves};
 
 use crate::fault::LineRefusal;
 use mal_base::{Formula, LineFault};
@@ -19,15 +19,6 @@ pub fn opened(alloc: Global, line: &[u8]) -> Result<BlockReader, LineFault>
         Ok(block) => Ok(block),
         Err(fault) => Err(LineFault::Dimacs { fault }),
     }
-}
-
-/// The block after a line.
-pub fn after_row(block: BlockReader, line: &[u8]) -> Result<BlockReader, LineRefusal>
-    ensures { Gives (λ b. b) result (in_block (dimacs.after_row (words_of line.now) block)) }
-{
-    let mut after = block;
-    take_row(&mut after, line)?;
-    Ok(after)
 }
 
 /// Reads a line of a block in place.

@@ -3,8 +3,8 @@
 ghost use Rattle.std.specs.Prelude.{◌≡◌, ◌+◌, ◌≤◌, ◌∷◌, length, true, is_some, Some, Ok, IfOk};
 ghost use Rattle.mal_base.specs.{Clauses.{rises}, Formulas.{is_formula, is_within, literals_of}};
 ghost use Rattle.spec_text.specs.Inputs.{words_of};
-ghost use Rattle.spec_script.specs.{Assumptions.{assumptions_in}, Reading.{begun, with_block, after_header, revised, after_assumptions, after_weight, inside_block, with_revision, with_weight, ended_job, unended, without_block}};
-ghost use Rattle.mal_script.specs.{InPlace.{in_block_of}, ReadResult.{Fails, Gives, Leaves}};
+ghost use Rattle.spec_script.specs.{Assumptions.{assumptions_in}, Reading.{begun, after_header, revised, after_assumptions, after_weight, with_revision, with_weight, unended}};
+ghost use Rattle.mal_script.specs.{InPlace.{between, in_block_of, in_its_block}, ReadResult.{Fails, Gives, Leaves}};
 
 use crate::asks::weight_in;
 use crate::assuming::assumptions_in;
@@ -15,10 +15,10 @@ use crate::script::ScriptJob;
 use mal_base::{Ask, Formula, LimitKind, LineFault, Lit, Name, Weight};
 use mal_dimacs::BlockReader;
 use mal_revision::Revision;
-use mal_text::first_word;
 use spec_script::Step;
 use std::alloc::Global;
 use std::marker::Model;
+use std::mem;
 
 /// A line that has a word, split there: its first word, and what is after it.
 #[derive(Clone, Copy)]
@@ -65,130 +65,128 @@ impl OpenJob {
         }
     }
 
-    /// After the header of a block, which is this line. Takes no memory.
-    pub fn after_header(self, limits: Limits, line: &[u8]) -> Result<OpenJob, LineFault>
-        ensures { result ≡ after_header limits (words_of line.now) self }
+    /// With this block in place of its own.
+    fn set_block(&mut self, block: Option<BlockReader>)
+        ensures { self.new ≡ record self.old { block = block } }
     {
-        if self.posted >= limits.revisions {
-            return Err(LineFault::Limit {
-                which: LimitKind::Revisions,
-            });
-        }
-        let block = blocks::opened(self.job.allocator(), line)?;
-        Ok(self.with_block(block))
+        drop(mem::replace(&mut self.block, block));
     }
 
-    /// The job without its block, and the block.
-    pub fn without_block(mut self) -> (OpenJob, Option<BlockReader>)
-        ensures job { result.0 ≡ without_block self }
-        ensures block { result.1 ≡ self.block }
+    /// Reads the header of a block, which is this line. Takes no memory.
+    fn take_header(&mut self, limits: Limits, line: &[u8]) -> Result<(), LineRefusal>
+        ensures { Leaves result self.new (after_header limits (words_of line.now) self.old) }
     {
-        let block = self.block.take();
-        (self, block)
+        if self.posted >= limits.revisions {
+            return Err(LineRefusal::Fault(LineFault::Limit {
+                which: LimitKind::Revisions,
+            }));
+        }
+        match blocks::opened(self.job.allocator(), line) {
+            Ok(block) => {
+                self.set_block(Some(block));
+                Ok(())
+            }
+            Err(fault) => Err(LineRefusal::Fault(fault)),
+        }
     }
 
     /// What is refused where the text ends in this job.
     pub fn unended(self) -> LineRefusal
         ensures { Fails result (unended self.block) }
     {
-        let (_job, block) = self.without_block();
+        let OpenJob { job, block, .. } = self;
+        drop(job);
         match block {
             None => LineRefusal::Fault(LineFault::BadLine),
             Some(block) => unended(block),
         }
     }
 
-    /// The job with this block in place of its own.
-    fn with_block(self, block: BlockReader) -> OpenJob
-        ensures { result ≡ with_block self block }
-    {
-        OpenJob {
-            job: self.job,
-            posted: self.posted,
-            clauses: self.clauses,
-            literals: self.literals,
-            block: Some(block),
-        }
-    }
-
-    /// The job with one revision more, which has so many literals, in place of its block.
-    fn with_revision(
-        self,
+    /// Puts one revision more, which has so many literals, in place of its block.
+    fn add_revision(
+        &mut self,
         formula: Formula,
         literals: usize,
         assumptions: &[Lit],
-    ) -> Result<OpenJob, LineRefusal>
+    ) -> Result<(), LineRefusal>
         requires count { literals ≡ literals_of formula.clauses }
-        requires clauses { self.clauses + length formula.clauses ≤ 1048576 }
-        requires literals { self.literals + literals ≤ 16777216 }
+        requires clauses { self.old.clauses + length formula.clauses ≤ 1048576 }
+        requires literals { self.old.literals + literals ≤ 16777216 }
         requires form { is_formula formula ≡ true }
         requires rising { rises assumptions.now ≡ true }
         requires within { is_within formula.variables assumptions.now ≡ true }
-        ensures { Gives (λ o. o) result (Ok (with_revision self formula assumptions.now)) }
+        ensures { Leaves result self.new (Ok (with_revision self.old formula assumptions.now)) }
     {
         // No memory holds more revisions than a number of this size says.
         let Some(posted) = self.posted.checked_add(1) else {
+            drop(formula);
             return Err(LineRefusal::OutOfMemory);
         };
-        let variables = formula.variables();
         let clauses = self.clauses + formula.clauses().len();
         let literals = self.literals + literals;
-        let alloc = self.job.allocator();
-        match Revision::new(alloc, variables, formula.into_clauses(), assumptions) {
-            Ok(revision) => Ok(OpenJob {
-                job: self.job.with_step(Step::Revise(revision))?,
-                posted,
-                clauses,
-                literals,
-                block: None,
-            }),
-            Err(_) => Err(LineRefusal::OutOfMemory),
-        }
+        let revision = revision_of(self.job.allocator(), formula, assumptions)?;
+        self.job.push(Step::Revise(revision))?;
+        self.posted = posted;
+        self.clauses = clauses;
+        self.literals = literals;
+        self.set_block(None);
+        Ok(())
     }
 
-    /// After a revision of this formula under these assumptions.
-    fn revised(self, formula: Formula, assumptions: &[Lit]) -> Result<OpenJob, LineRefusal>
+    /// Reads a revision of this formula under these assumptions.
+    fn take_revision(&mut self, formula: Formula, assumptions: &[Lit]) -> Result<(), LineRefusal>
         requires rising { rises assumptions.now ≡ true }
         requires within { is_within formula.variables assumptions.now ≡ true }
-        ensures { Gives (λ o. o) result (revised self formula assumptions.now) }
+        ensures { Leaves result self.new (revised self.old formula assumptions.now) }
     {
         let literals = formula.literals() as usize;
         if self.clauses + formula.clauses().len() > 1 << 20 {
+            drop(formula);
             return Err(LineRefusal::Fault(LineFault::Limit {
                 which: LimitKind::Clauses,
             }));
         }
         if self.literals + literals > 1 << 24 {
+            drop(formula);
             return Err(LineRefusal::Fault(LineFault::Limit {
                 which: LimitKind::Literals,
             }));
         }
-        self.with_revision(formula, literals, assumptions)
+        self.add_revision(formula, literals, assumptions)
     }
 
-    /// After the words behind the `a` of the line that ends this block.
-    fn after_assumptions(self, words: &[u8], block: BlockReader) -> Result<OpenJob, LineRefusal>
-        ensures { Gives (λ o. o) result (after_assumptions (words_of words.now) self block) }
+    /// Reads the words behind the `a` of the line that ends this block.
+    fn take_assumptions(&mut self, words: &[u8], block: BlockReader) -> Result<(), LineRefusal>
+        ensures { Leaves result self.new (after_assumptions (words_of words.now) self.old block) }
     {
         // The faults of the block's end come before the line's own.
         let formula = match blocks::ended(block) {
             Ok(formula) => formula,
             Err(fault) => return Err(LineRefusal::Fault(fault)),
         };
-        let assumptions = assumed(self.job.allocator(), words, formula.variables())?;
-        self.revised(formula, assumptions.as_slice())
+        match assumed(self.job.allocator(), words, formula.variables()) {
+            Ok(assumptions) => self.take_revision(formula, assumptions.as_slice()),
+            Err(refusal) => {
+                drop(formula);
+                Err(refusal)
+            }
+        }
     }
 
-    /// After a line in this block, which is its first word and the others.
-    pub fn inside_block(self, split: SplitLine, block: BlockReader) -> Result<OpenJob, LineRefusal>
+    /// Reads a line in its block, which is its first word and the others. Without a block nothing is changed.
+    pub fn take_in_block(&mut self, split: SplitLine) -> Result<(), LineRefusal>
         requires { words_of split.line.now ≡ split.first.now ∷ words_of split.others.now }
-        ensures { Gives (λ o. o) result (inside_block split.entry.first.now (words_of split.entry.others.now) self block) }
+        ensures { Leaves
+            result self.new
+            (in_its_block split.entry.first.now (words_of split.entry.others.now) self.old self.old.block) }
     {
         if split.first == b"a".as_slice() {
-            return self.after_assumptions(split.others, block);
+            return match self.block.take() {
+                None => Ok(()),
+                Some(block) => self.take_assumptions(split.others, block),
+            };
         }
-        let block = blocks::after_row(block, split.line)?;
-        Ok(self.with_block(block))
+        self.take_numbers(split.line)
     }
 
     /// Whether a block has begun and not ended.
@@ -208,37 +206,72 @@ impl OpenJob {
         Ok(())
     }
 
-    /// The job with one more change of what it asks for, and without its block.
-    fn with_weight(self, weight: Weight) -> Result<OpenJob, LineRefusal>
-        ensures { Gives (λ o. o) result (Ok (with_weight self weight)) }
+    /// Puts one more change of what it asks for in place of its block.
+    fn add_weight(&mut self, weight: Weight) -> Result<(), LineRefusal>
+        ensures { Leaves result self.new (Ok (with_weight self.old weight)) }
     {
-        Ok(OpenJob {
-            job: self.job.with_step(Step::Reask(weight))?,
-            posted: self.posted,
-            clauses: self.clauses,
-            literals: self.literals,
-            block: None,
-        })
+        self.job.push(Step::Reask(weight))?;
+        self.set_block(None);
+        Ok(())
     }
 
-    /// After the words behind the `q` of a line that changes what the job asks for.
-    pub fn after_weight(self, words: &[u8]) -> Result<OpenJob, LineRefusal>
-        ensures { Gives (λ o. o) result (after_weight (words_of words.now) self) }
+    /// Reads the words behind the `q` of a line that changes what the job asks for.
+    fn take_weight(&mut self, words: &[u8]) -> Result<(), LineRefusal>
+        ensures { Leaves result self.new (after_weight (words_of words.now) self.old) }
     {
         match weight_in(words) {
-            Ok(weight) => self.with_weight(weight),
+            Ok(weight) => self.add_weight(weight),
             Err(fault) => Err(LineRefusal::Fault(fault)),
         }
     }
 
-    /// The job that is ended by these words behind an `e`.
-    pub fn ended(self, words: &[u8]) -> Result<ScriptJob, LineRefusal>
-        ensures { Gives (λ j. j) result (ended_job (words_of words.now) self) }
+    /// Reads a line in no block that does not end the job, which is its first word and the others.
+    pub fn take_between(&mut self, limits: Limits, split: SplitLine) -> Result<(), LineRefusal>
+        requires { words_of split.line.now ≡ split.first.now ∷ words_of split.others.now }
+        ensures { Leaves
+            result self.new
+            (between limits split.entry.first.now (words_of split.entry.others.now) self.old) }
     {
-        if first_word(words).is_some() {
-            return Err(LineRefusal::Fault(LineFault::BadLine));
+        if split.first == b"p".as_slice() {
+            return self.take_header(limits, split.line);
         }
-        Ok(self.job)
+        if split.first == b"q".as_slice() {
+            return self.take_weight(split.others);
+        }
+        Err(LineRefusal::Fault(LineFault::BadLine))
+    }
+
+    /// The job, without its block.
+    pub fn into_job(self) -> ScriptJob
+        ensures { result ≡ self.job }
+    {
+        let OpenJob { job, block, .. } = self;
+        drop(block);
+        job
+    }
+}
+
+/// The revision of this formula under these assumptions.
+fn revision_of(
+    alloc: Global,
+    formula: Formula,
+    assumptions: &[Lit],
+) -> Result<Revision, LineRefusal>
+    requires form { is_formula formula ≡ true }
+    requires rising { rises assumptions.now ≡ true }
+    requires within { is_within formula.variables assumptions.now ≡ true }
+    ensures { Gives
+        (λ r. r) result
+        (Ok (record {
+          variables = formula.variables;
+          clauses = formula.clauses;
+          assumptions = assumptions.now;
+        })) }
+{
+    let variables = formula.variables();
+    match Revision::new(alloc, variables, formula.into_clauses(), assumptions) {
+        Ok(revision) => Ok(revision),
+        Err(_) => Err(LineRefusal::OutOfMemory),
     }
 }
 

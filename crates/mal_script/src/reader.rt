@@ -1,10 +1,10 @@
 //! A script of which some lines were read.
 
-ghost use Rattle.std.specs.Prelude.{◌≡◌, ◌≢◌, ◌∷◌, [], true, ℕ, List, MatchOption};
+ghost use Rattle.std.specs.Prelude.{◌≡◌, ◌≢◌, ◌<◌, ◌∷◌, ◌++◌, [], true, ℕ, List, MatchOption, OnOk, OnErr, vec_len, vec_capacity};
 ghost use Rattle.std.specs.List.{list_any};
 ghost use Rattle.spec_text.specs.Inputs.{words_of};
-ghost use Rattle.spec_script.specs.Reading.{unread, named, has_room, is_job, after_tenant, admitted, of_tenant, after_job, outside, inside_job, inside, after_counted, after_row, at_end, after_end, going_on};
-ghost use Rattle.mal_script.specs.{InPlace.{StaysInBlock, in_job_of}, ReadResult.{Gives, Leaves, of_jobs}};
+ghost use Rattle.spec_script.specs.Reading.{unread, named, has_room, is_job, after_tenant, admitted, of_tenant, after_job, outside, inside_job, inside, after_counted, after_row, at_end, after_end, with_job};
+ghost use Rattle.mal_script.specs.{InPlace.{GoesOn, StaysInBlock, in_job_of}, ReadResult.{Gives, Leaves, of_jobs}, TakenNames.{AreTaken}};
 
 use crate::asks::asked;
 use crate::fault::LineRefusal;
@@ -15,7 +15,7 @@ use crate::taken::{TakenNames, is_among};
 use mal_base::{Ask, LimitKind, LineFault, Name};
 use mal_dimacs::is_comment;
 use mal_text::{begins_number, first_word};
-use std::alloc::Global;
+use std::alloc::{AllocError, Global};
 use std::marker::Model;
 use std::mem;
 
@@ -55,13 +55,13 @@ impl Reader {
         }
     }
 
-    /// After the name of a tenant.
-    fn named(mut self, limits: Limits, name: Name) -> Result<Reader, LineRefusal>
-        ensures { Gives (λ r. r) result (named limits name self) }
+    /// Reads the name of a tenant.
+    fn take_name(&mut self, limits: Limits, name: Name) -> Result<(), LineRefusal>
+        ensures { Leaves result self.new (named limits name self.old) }
     {
         if is_among(name, self.tenants.as_slice()) {
             self.tenant = Some(name);
-            return Ok(self);
+            return Ok(());
         }
         if self.tenants.len() >= limits.tenants {
             return Err(LineRefusal::Fault(LineFault::Limit {
@@ -71,18 +71,18 @@ impl Reader {
         self.tenants.reserve(1)?;
         self.tenants.push_reserved(name);
         self.tenant = Some(name);
-        Ok(self)
+        Ok(())
     }
 
-    /// After the words behind the `t` of a tenant's line.
-    fn after_tenant(self, limits: Limits, words: &[u8]) -> Result<Reader, LineRefusal>
-        ensures { Gives (λ r. r) result (after_tenant limits (words_of words.now) self) }
+    /// Reads the words behind the `t` of a tenant's line.
+    fn take_tenant(&mut self, limits: Limits, words: &[u8]) -> Result<(), LineRefusal>
+        ensures { Leaves result self.new (after_tenant limits (words_of words.now) self.old) }
     {
         let Some(word) = only_word(words) else {
             return Err(LineRefusal::Fault(LineFault::BadLine));
         };
         match Name::of(word) {
-            Some(name) => self.named(limits, name),
+            Some(name) => self.take_name(limits, name),
             None => Err(LineRefusal::Fault(LineFault::BadLine)),
         }
     }
@@ -101,15 +101,22 @@ impl Reader {
         self.names.jobs_of(tenant) < limits.jobs_of_tenant && self.jobs.len() < limits.jobs
     }
 
-    /// After a job of this tenant has begun.
-    fn admitted(
-        mut self,
+    /// With this as the job that has begun.
+    fn set_opened(&mut self, opened: Option<OpenJob>)
+        ensures { self.new ≡ record self.old { opened = opened } }
+    {
+        drop(mem::replace(&mut self.opened, opened));
+    }
+
+    /// Begins a job of this tenant.
+    fn admit(
+        &mut self,
         limits: Limits,
         tenant: Name,
         name: Name,
         ask: Ask,
-    ) -> Result<Reader, LineRefusal>
-        ensures { Gives (λ r. r) result (admitted limits tenant name self ask) }
+    ) -> Result<(), LineRefusal>
+        ensures { Leaves result self.new (admitted limits tenant name self.old ask) }
     {
         if self.has_job(tenant, name) {
             return Err(LineRefusal::Fault(LineFault::Duplicate { tenant, job: name }));
@@ -120,23 +127,23 @@ impl Reader {
             }));
         }
         let alloc = *self.jobs.allocator();
-        self.opened = Some(OpenJob::begin(alloc, tenant, name, ask));
-        Ok(self)
+        self.set_opened(Some(OpenJob::begin(alloc, tenant, name, ask)));
+        Ok(())
     }
 
-    /// After the words of a job's first line: its name, its priority, demand and slices, and the words behind them.
-    fn of_tenant(
-        self,
+    /// Reads the words of a job's first line: its name, its priority, demand and slices, and the words behind them.
+    fn take_terms(
+        &mut self,
         limits: Limits,
         name: &[u8],
         priority: &[u8],
         demand: &[u8],
         slices: &[u8],
         behind: &[u8],
-    ) -> Result<Reader, LineRefusal>
-        ensures { Gives
-            (λ r. r) result
-            (of_tenant limits self.tenant name.now priority.now demand.now slices.now (words_of behind.now) self) }
+    ) -> Result<(), LineRefusal>
+        ensures { Leaves
+            result self.new
+            (of_tenant limits self.old.tenant name.now priority.now demand.now slices.now (words_of behind.now) self.old) }
     {
         let Some(tenant) = self.tenant else {
             return Err(LineRefusal::Fault(LineFault::BadLine));
@@ -145,129 +152,156 @@ impl Reader {
             return Err(LineRefusal::Fault(LineFault::BadLine));
         };
         match asked(priority, demand, slices, behind) {
-            Ok(ask) => self.admitted(limits, tenant, name, ask),
+            Ok(ask) => self.admit(limits, tenant, name, ask),
             Err(fault) => Err(LineRefusal::Fault(fault)),
         }
     }
 
-    /// After the words behind the `j` of a job's first line.
-    fn after_job(self, limits: Limits, words: &[u8]) -> Result<Reader, LineRefusal>
-        ensures { Gives (λ r. r) result (after_job limits (words_of words.now) self) }
+    /// Reads the words behind the `j` of a job's first line.
+    fn take_job(&mut self, limits: Limits, words: &[u8]) -> Result<(), LineRefusal>
+        ensures { Leaves result self.new (after_job limits (words_of words.now) self.old) }
     {
         match four_words(words) {
             Some((name, priority, demand, slices, behind)) => {
-                self.of_tenant(limits, name, priority, demand, slices, behind)
+                self.take_terms(limits, name, priority, demand, slices, behind)
             }
             None => Err(LineRefusal::Fault(LineFault::BadLine)),
         }
     }
 
-    /// After a line outside a job, which is its first word and the others.
-    fn outside(self, limits: Limits, first: &[u8], others: &[u8]) -> Result<Reader, LineRefusal>
-        ensures { Gives (λ r. r) result (outside limits first.now (words_of others.now) self) }
+    /// Reads a line outside a job, which is its first word and the others.
+    fn take_outside(
+        &mut self,
+        limits: Limits,
+        first: &[u8],
+        others: &[u8],
+    ) -> Result<(), LineRefusal>
+        ensures { Leaves result self.new (outside limits first.now (words_of others.now) self.old) }
     {
         if first == b"t".as_slice() {
-            return self.after_tenant(limits, others);
+            return self.take_tenant(limits, others);
         }
         if first == b"j".as_slice() {
-            return self.after_job(limits, others);
+            return self.take_job(limits, others);
         }
         Err(LineRefusal::Fault(LineFault::BadLine))
     }
 
-    /// With this job as the one that has begun.
-    fn goes_on(mut self, job: OpenJob) -> Reader
-        ensures { result ≡ going_on self job }
+    /// Goes on with this job, of which a line was read, where that was no refusal.
+    fn go_on(&mut self, job: OpenJob, read: Result<(), LineRefusal>) -> Result<(), LineRefusal>
+        ensures { GoesOn read job result self.old self.new }
     {
-        self.opened = Some(job);
-        self
-    }
-
-    /// After the line that ends this job.
-    #[tactic(auto, using(crate::proofs::Names::few_jobs))]
-    fn after_end(mut self, job: OpenJob, words: &[u8]) -> Result<Reader, LineRefusal>
-        ensures { Gives (λ r. r) result (after_end (words_of words.now) job self) }
-    {
-        let job = job.ended(words)?;
-        self.names.note(&job)?;
-        self.jobs.reserve(1)?;
-        self.jobs.push_reserved(job);
-        self.opened = None;
-        Ok(self)
-    }
-
-    /// After a line in this job and in no block, which is its first word and the others.
-    fn inside_job(
-        self,
-        limits: Limits,
-        split: SplitLine,
-        job: OpenJob,
-    ) -> Result<Reader, LineRefusal>
-        requires { words_of split.line.now ≡ split.first.now ∷ words_of split.others.now }
-        ensures { Gives
-            (λ r. r) result (inside_job limits split.entry.first.now (words_of split.entry.others.now) job self) }
-    {
-        if split.first == b"p".as_slice() {
-            return match job.after_header(limits, split.line) {
-                Ok(job) => Ok(self.goes_on(job)),
-                Err(fault) => Err(LineRefusal::Fault(fault)),
-            };
-        }
-        if split.first == b"q".as_slice() {
-            let job = job.after_weight(split.others)?;
-            return Ok(self.goes_on(job));
-        }
-        if split.first == b"e".as_slice() {
-            return self.after_end(job, split.others);
-        }
-        Err(LineRefusal::Fault(LineFault::BadLine))
-    }
-
-    /// After a line in this job, which is its first word and the others.
-    fn inside(self, limits: Limits, split: SplitLine, job: OpenJob) -> Result<Reader, LineRefusal>
-        requires { words_of split.line.now ≡ split.first.now ∷ words_of split.others.now }
-        ensures { Gives
-            (λ r. r) result (inside limits split.entry.first.now (words_of split.entry.others.now) job job.block self) }
-    {
-        let (job, block) = job.without_block();
-        match block {
-            None => self.inside_job(limits, split, job),
-            Some(block) => {
-                let job = job.inside_block(split, block)?;
-                Ok(self.goes_on(job))
+        match read {
+            Ok(()) => {
+                self.set_opened(Some(job));
+                Ok(())
+            }
+            Err(refusal) => {
+                drop(job);
+                Err(refusal)
             }
         }
     }
 
-    /// After a line, which is its first word and the others and no comment.
-    fn after_counted(mut self, limits: Limits, split: SplitLine) -> Result<Reader, LineRefusal>
-        requires { words_of split.line.now ≡ split.first.now ∷ words_of split.others.now }
-        ensures { Gives
-            (λ r. r) result
-            (after_counted limits split.entry.first.now (words_of split.entry.others.now) self.opened self) }
+    /// Puts a job that has ended behind the others.
+    #[tactic(auto, using(crate::proofs::Names::few_jobs))]
+    fn add(&mut self, job: ScriptJob) -> Result<(), AllocError>
+        ensures { OnOk result (self.new ≡ with_job self.old job) }
     {
-        match self.opened.take() {
-            None => self.outside(limits, split.first, split.others),
-            Some(job) => self.inside(limits, split, job),
+        self.set_opened(None);
+        match note(&mut self.jobs, &mut self.names, &job) {
+            Ok(()) => {
+                self.jobs.push_reserved(job);
+                Ok(())
+            }
+            Err(error) => {
+                drop(job);
+                Err(error)
+            }
         }
     }
 
-    /// After a line.
-    fn after_row(self, limits: Limits, line: &[u8]) -> Result<Reader, LineRefusal>
-        ensures { Gives (λ r. r) result (after_row limits (words_of line.now) self) }
+    /// Reads the line that ends this job, given what stands behind its first word.
+    fn take_end(&mut self, job: OpenJob, words: &[u8]) -> Result<(), LineRefusal>
+        ensures { Leaves result self.new (after_end (words_of words.now) job self.old) }
+    {
+        if first_word(words).is_some() {
+            drop(job);
+            return Err(LineRefusal::Fault(LineFault::BadLine));
+        }
+        self.add(job.into_job())?;
+        Ok(())
+    }
+
+    /// Reads a line in this job and in no block, which is its first word and the others.
+    fn take_in_job(
+        &mut self,
+        limits: Limits,
+        split: SplitLine,
+        job: OpenJob,
+    ) -> Result<(), LineRefusal>
+        requires { words_of split.line.now ≡ split.first.now ∷ words_of split.others.now }
+        ensures { Leaves
+            result self.new
+            (inside_job limits split.entry.first.now (words_of split.entry.others.now) job self.old) }
+    {
+        if split.first == b"e".as_slice() {
+            return self.take_end(job, split.others);
+        }
+        let mut job = job;
+        let read = job.take_between(limits, split);
+        self.go_on(job, read)
+    }
+
+    /// Reads a line in this job, which is its first word and the others.
+    fn take_inside(
+        &mut self,
+        limits: Limits,
+        split: SplitLine,
+        job: OpenJob,
+    ) -> Result<(), LineRefusal>
+        requires { words_of split.line.now ≡ split.first.now ∷ words_of split.others.now }
+        ensures { Leaves
+            result self.new
+            (inside limits split.entry.first.now (words_of split.entry.others.now) job job.block self.old) }
+    {
+        if !job.has_block() {
+            return self.take_in_job(limits, split, job);
+        }
+        let mut job = job;
+        let read = job.take_in_block(split);
+        self.go_on(job, read)
+    }
+
+    /// Reads a line, which is its first word and the others and no comment.
+    fn take_counted(&mut self, limits: Limits, split: SplitLine) -> Result<(), LineRefusal>
+        requires { words_of split.line.now ≡ split.first.now ∷ words_of split.others.now }
+        ensures { Leaves
+            result self.new
+            (after_counted limits split.entry.first.now (words_of split.entry.others.now) self.old.opened self.old) }
+    {
+        match self.opened.take() {
+            None => self.take_outside(limits, split.first, split.others),
+            Some(job) => self.take_inside(limits, split, job),
+        }
+    }
+
+    /// Reads a line by its first word.
+    fn take_other(&mut self, limits: Limits, line: &[u8]) -> Result<(), LineRefusal>
+        ensures { Leaves result self.new (after_row limits (words_of line.now) self.old) }
     {
         let Some((first, others)) = first_word(line) else {
-            return Ok(self);
+            return Ok(());
         };
         if is_comment(first) {
-            return Ok(self);
+            return Ok(());
         }
         let split = SplitLine {
             line,
             first,
             others,
         };
-        self.after_counted(limits, split)
+        self.take_counted(limits, split)
     }
 
     /// Whether a line is one of numbers in a block, as its first byte tells. One that is not may be one all the same.
@@ -299,22 +333,46 @@ impl Reader {
         if self.is_at_numbers(line) {
             return self.take_numbers(line);
         }
-        let unread = Reader::new(*self.jobs.allocator());
-        let reader = mem::replace(self, unread);
-        *self = reader.after_row(limits, line)?;
-        Ok(())
+        self.take_other(limits, line)
     }
 
     /// The jobs of the script, where no job has begun that has not ended.
     pub fn finish(self) -> Result<Vec<ScriptJob>, LineRefusal>
         ensures { Gives (λ v. of_jobs v.items) result (at_end self.opened self.jobs) }
     {
-        let Reader { jobs, opened, .. } = self;
+        let Reader {
+            jobs,
+            names,
+            tenants,
+            opened,
+            ..
+        } = self;
+        drop(names);
+        drop(tenants);
         match opened {
             None => Ok(jobs),
-            Some(job) => Err(job.unended()),
+            Some(job) => {
+                drop(jobs);
+                Err(job.unended())
+            }
         }
     }
+}
+
+/// Makes room for one job more behind these, and notes its names.
+fn note(
+    jobs: &mut Vec<ScriptJob>,
+    names: &mut TakenNames,
+    job: &ScriptJob,
+) -> Result<(), AllocError>
+    requires { AreTaken jobs.old.items names.old.places names.old.counts }
+    ensures jobs { jobs.new.items ≡ jobs.old.items }
+    ensures room { OnOk result (vec_len jobs.new < vec_capacity jobs.new) }
+    ensures noted { OnOk result (AreTaken (jobs.old.items ++ job.now ∷ []) names.new.places names.new.counts) }
+    ensures alike { OnErr result (AreTaken jobs.old.items names.new.places names.new.counts) }
+{
+    jobs.reserve(1)?;
+    names.note(job)
 }
 
 /// The only word of a line. None exactly where the line has no word or more than one.

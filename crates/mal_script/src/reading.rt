@@ -1,8 +1,9 @@
 //! Reading scripts.
 
-ghost use Rattle.std.specs.Prelude.{◌≡◌, IfOk, MatchResult};
-ghost use Rattle.spec_script.specs.{Limits.{served}, Grammar.{Spells}, Reading.{read_text}, Formed.{IsScript}, Script.{Scripted, spelling}, Within.{IsWithin}};
-ghost use Rattle.mal_script.specs.{declared.fault.ScriptFault.TheVariants.{OutOfMemory}, ReadResult.{GivesAt, RefusedAt, of_jobs}};
+ghost use Rattle.std.specs.Prelude.{◌≡◌, [], IfOk, MatchResult};
+ghost use Rattle.spec_dimacs.specs.Rows.{rows_of};
+ghost use Rattle.spec_script.specs.{Limits.{served}, Grammar.{Spells}, Reading.{read_rows, read_text}, Formed.{IsScript}, Script.{Scripted, spelling}, Within.{IsWithin}};
+ghost use Rattle.mal_script.specs.{declared.fault.ScriptFault.TheVariants.{OutOfMemory}, ReadResult.{FailsAt, GivesAt, RefusedAt, of_jobs}};
 
 use crate::fault::{LineRefusal, ScriptFault};
 use crate::limits::Limits;
@@ -52,6 +53,24 @@ fn read_rows(alloc: Global, text: &[u8], limits: Limits) -> Result<Vec<ScriptJob
     ensures { GivesAt (λ v. of_jobs v.items) result (read_text limits text.now) }
 {
     let mut reader = Reader::new(alloc);
+    match take_rows(&mut reader, text, limits) {
+        Ok(lines) => match reader.finish() {
+            Ok(jobs) => Ok(jobs),
+            Err(refusal) => Err(refused(lines.max(1), refusal)),
+        },
+        Err(fault) => {
+            drop(reader);
+            Err(fault)
+        }
+    }
+}
+
+/// Reads the lines of a text, one behind another. Answers how many there are.
+fn take_rows(reader: &mut Reader, text: &[u8], limits: Limits) -> Result<u64, ScriptFault>
+    ensures { MatchResult result
+        (λ lines. read_rows limits [] lines reader.new ≡ read_rows limits (rows_of text.now) 0 reader.old)
+        (λ fault. FailsAt fault (read_rows limits (rows_of text.now) 0 reader.old)) }
+{
     let mut rest = text;
     let mut line: u64 = 0;
     while let Some((row, behind)) = first_line(rest) {
@@ -62,10 +81,7 @@ fn read_rows(alloc: Global, text: &[u8], limits: Limits) -> Result<Vec<ScriptJob
         }
         rest = behind;
     }
-    match reader.finish() {
-        Ok(jobs) => Ok(jobs),
-        Err(refusal) => Err(refused(line.max(1), refusal)),
-    }
+    Ok(line)
 }
 
 /// The refusal of this line as that of the text.

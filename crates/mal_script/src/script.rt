@@ -1,6 +1,6 @@
 //! A script and its jobs.
 
-ghost use Rattle.std.specs.Prelude.{◌≡◌, ◌+◌, ◌≤◌, ◌++◌, ◌∷◌, [], length, slice_get, IfOk};
+ghost use Rattle.std.specs.Prelude.{◌≡◌, ◌+◌, ◌≤◌, ◌++◌, ◌∷◌, [], length, slice_get, IfOk, OnOk, OnErr};
 ghost use Rattle.std.specs.{List.{count_by}, Option.{option_copied}};
 ghost use Rattle.mal_script.specs.{Counting.{is_revision, revision_of}, ReadResult.{of_jobs}};
 ghost use Rattle.spec_script.specs.{Formed.{IsScript}, Limits.{served}, Script.{revisions, revisions_at}};
@@ -55,14 +55,41 @@ impl ScriptJob {
         ensures count { IfOk result
             (λ j. length (revisions j) ≡ length (revisions self) + length (revisions_at step)) }
     {
-        let mut steps = self.steps;
-        steps.push(step)?;
-        Ok(ScriptJob {
-            tenant: self.tenant,
-            name: self.name,
-            ask: self.ask,
-            steps,
-        })
+        let mut job = self;
+        match job.push(step) {
+            Ok(()) => Ok(job),
+            Err(error) => {
+                drop(job);
+                Err(error)
+            }
+        }
+    }
+
+    /// Puts a step behind the others. After want of memory the job is as before.
+    pub(crate) fn push(&mut self, step: Step) -> Result<(), AllocError>
+        ensures job { OnOk result
+            (self.new
+            ≡ record {
+              tenant = self.old.tenant;
+              name = self.old.name;
+              ask = self.old.ask;
+              steps = self.old.steps ++ step
+                  ∷ [];
+            }) }
+        ensures count { OnOk result
+            (length (revisions self.new) ≡ length (revisions self.old) + length (revisions_at step)) }
+        ensures err { OnErr result (self.new ≡ self.old) }
+    {
+        match self.steps.reserve(1) {
+            Ok(()) => {
+                self.steps.push_reserved(step);
+                Ok(())
+            }
+            Err(error) => {
+                drop(step);
+                Err(error)
+            }
+        }
     }
 
     /// Where its memory comes from.

@@ -1,6 +1,6 @@
 //! Which names and places are taken by the jobs so far.
 
-ghost use Rattle.std.specs.Prelude.{◌≡◌, ◌<◌, ◌^◌, ◌∷◌, ◌++◌, [], List, is_some, OnOk};
+ghost use Rattle.std.specs.Prelude.{◌≡◌, ◌<◌, ◌^◌, ◌∷◌, ◌++◌, [], List, is_some, OnOk, OnErr};
 ghost use Rattle.std.specs.{List.{list_any}, Str.{bytes_eq}};
 ghost use Rattle.mal_script.specs.TakenNames.{AreTaken, jobs_at, kept_at};
 ghost use Rattle.spec_script.specs.Script.{ScriptedJob};
@@ -54,18 +54,32 @@ impl TakenNames {
         }
     }
 
-    /// Notes the names of a job that comes behind others.
+    /// Notes the names of a job that comes behind others. After want of memory those of the others are taken, as before.
     pub fn note(&mut self, job: &ScriptJob) -> Result<(), AllocError>
         requires { jobs_at self.old.counts job.now.tenant < 2 ^ 63 }
-        ensures { OnOk result
+        ensures noted { OnOk result
             ((jobs : List ScriptedJob)
             → AreTaken jobs self.old.places self.old.counts
             → AreTaken (jobs ++ job.now ∷ []) self.new.places self.new.counts) }
+        ensures alike { OnErr result
+            ((jobs : List ScriptedJob)
+            → AreTaken jobs self.old.places self.old.counts
+            → AreTaken jobs self.new.places self.new.counts) }
     {
         let tenant = job.tenant();
         let place = self.jobs_of(tenant);
-        self.places.insert((tenant, job.name()), place)?;
-        self.counts.insert(tenant, place + 1)?;
-        Ok(())
+        // The tenant's count stands there before the name, so that to raise it takes no memory.
+        match self.counts.insert(tenant, place) {
+            Ok(_) => {}
+            Err(error) => return Err(error.into()),
+        }
+        match self.places.insert((tenant, job.name()), place) {
+            Ok(_) => {}
+            Err(error) => return Err(error.into()),
+        }
+        match self.counts.insert(tenant, place + 1) {
+            Ok(_) => Ok(()),
+            Err(_) => unreachable!(),
+        }
     }
 }

@@ -1,10 +1,10 @@
-use Rattle.std.proofs.Common.{◌≡◌, true}
+use Rattle.std.proofs.Common.{◌≡◌, true, refl}
 use Rattle.mal_base.proofs.Sorting.{and-both}
 use Rattle.mal_revision.specs.Posted.{is_posted}
-use Rattle.mal_script.proofs.opened.OpenJob.with_revision.Goals as goal
+use Rattle.mal_script.proofs.opened.revision_of.Goals as goal
 
-pub returns-in_ok-with_step-in-Ok : goal.returns-in_ok-with_step-in-Ok
-returns-in_ok-with_step-in-Ok c =
+pub returns-in-Ok : goal.returns-in-Ok
+returns-in-Ok c =
     let posted : is_posted (record { variables = c.variables-variables.result; clauses = c.into_clauses.result; assumptions = c.args.assumptions.now }) ≡ true = rw (c.variables-variables.ensures.value, c.into_clauses.ensures) (and-both _ _ c.requires.form (and-both _ _ c.requires.rising c.requires.within)) in
     let made = c.in-Ok.ensures.fits posted in
-    rw (← c.self.view_is, c.in_ok-with_step-in-Ok.ensures.job, made, c.variables-variables.ensures.value, c.into_clauses.ensures, c.len.ensures, c.clauses.ensures.value, c.requires.count)
+    rw (made, c.variables-variables.ensures.value, c.into_clauses.ensures) refl
