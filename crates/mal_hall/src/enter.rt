@@ -96,11 +96,18 @@ pub fn enter_arrive(
     ensures err { OnErr result (HasWaited entries.old entries.new seats.old seats.new) }
     ensures alike { OnErr result (AreAlike names.old names.new) }
 {
-    let content = entries.arrival_of(parcel.own())?;
     entries.reserve(owed + 1)?;
-    let is_closed = seat_arrival(alloc, seats, names, number, parcel)?;
-    entries.push_arrive(parcel.tenant(), parcel.job(), content);
-    Ok(is_closed)
+    let content = entries.arrival_of(parcel.own())?;
+    match seat_arrival(alloc, seats, names, number, parcel) {
+        Ok(is_closed) => {
+            entries.push_arrive(parcel.tenant(), parcel.job(), content);
+            Ok(is_closed)
+        }
+        Err(error) => {
+            drop(content);
+            Err(error)
+        }
+    }
 }
 
 /// Seats a job that arrives under a number above those of all others, and notes its name. Answers whether the job is
@@ -239,12 +246,19 @@ pub fn enter_balance(
     ensures room { OnOk result (owed ≤ entries.new.room) }
     ensures err { OnErr result (HasWaited entries.old entries.new seats.old seats.new) }
 {
+    entries.reserve(owed + 1)?;
     let volumes = seats.volumes(entries.workers())?;
     let shares = seats.shares(volumes.as_slice())?;
-    entries.reserve(owed + 1)?;
-    seats.balance(volumes.as_slice())?;
-    entries.push_reserved(Event::Balance { volumes: shares });
-    Ok(())
+    match seats.balance(volumes.as_slice()) {
+        Ok(()) => {
+            entries.push_reserved(Event::Balance { volumes: shares });
+            Ok(())
+        }
+        Err(error) => {
+            drop(shares);
+            Err(error)
+        }
+    }
 }
 
 /// Enters the start of a node of the job at a place by a worker, as the lease at this spot, and leaves room for as many

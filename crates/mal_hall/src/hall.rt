@@ -83,17 +83,20 @@ impl Hall {
         ensures none { IfOk result (λ h. h.inside ≡ replicate workers None) }
         ensures inside { IfOk result (λ h. IsInside h) }
     {
+        // What can fail comes first, so that no seats are let go of.
+        let spots = no_leases(alloc, workers)?;
+        let lodged = no_leases(alloc, workers)?;
         Ok(Hall {
             entries: EventList::new(alloc, workers),
             seats: Seats::new(alloc),
-            spots: no_leases(alloc, workers)?,
+            spots,
             names: Names::new(alloc),
             starts: 0,
             unclosed: 0,
             tenants: 0,
             comings: 0,
             moved: false,
-            lodged: no_leases(alloc, workers)?,
+            lodged,
         })
     }
 
