@@ -68,6 +68,10 @@ split_calls v after seen of =
     ap (λ (n : Numbers). filter_map told_by (part n.all after.seen)) of
     ∙ ap (λ (log : List (List ℕ × Entry)). filter_map told_by (part v.of.all log)) seen
 
+-- and none is told where the record has none of a pass
+pub split_none : (v : View Entry) → part v.of.all v.seen ≡ [] → calls_of v ≡ []
+split_none v none = ap (filter_map told_by) none
+
 -- a lease that is picked is its worker's
 pub picked_is_own : (w : ℕ) (v after : View Entry) (worker : ℕ) (answer : Result Offer PickFault) → Enters w v (service.Picked worker answer) after → IsOwn worker answer
 picked_is_own w v after worker answer h =

@@ -57,7 +57,7 @@ impl<S: Size + Send + Sync> Board for Served<S> {
         self.service.post(rt, pass, post)
     }
 
-    #[tactic(auto, using(crate::proofs::CallLemmas::split_calls))]
+    #[tactic(auto, using(crate::proofs::CallLemmas::split_calls, crate::proofs::CallLemmas::split_none))]
     fn split(&self, pass: Pass<S>) -> (Pass<S>, Pass<S>) {
         self.service.split(pass)
     }

@@ -3,6 +3,7 @@ pub mod RunLosses
 pub mod CallLosses
 pub mod Knowing
 pub mod Withins
+pub mod Sharings
 -- what this crate alone cites
 mod PoolLemmas
 mod Loops

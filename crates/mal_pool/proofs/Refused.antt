@@ -5,7 +5,7 @@ use Rattle.mal_hall.specs.declared.desk.Post.{Post}
 use Rattle.mal_hall.specs.Desks.{event_of}
 use Rattle.mal_pool.proofs.Leavings.{posted_on-parts}
 use Rattle.mal_pool.specs.Refusals.{IsOneRefused}
-use Rattle.mal_pool.specs.Runs.{posts_at, posts_in, posted_on}
+use Rattle.mal_pool.specs.Runs.{posted_on}
 use Rattle.spec_hall.specs.Events.{Event}
 
 -- one of the first of some posts is refused

@@ -1,5 +1,5 @@
 -- The revisions of a job, step by step.
-use Rattle.std.proofs.Common.{◌≡◌, ℕ, zero, suc, ◌+◌, ◌<◌, ◌≤◌, List, [], ◌∷◌, length, drop, get_or, sym, ◌∙◌, ap, subst, arith, length-append}
+use Rattle.std.proofs.Common.{◌≡◌, ℕ, zero, suc, ◌+◌, ◌<◌, List, [], ◌∷◌, length, drop, get_or, sym, ◌∙◌, ap, subst, arith, length-append}
 use Rattle.std.specs.Prelude.{◌↔◌, slice_get}
 use Rattle.std.proofs.lemmas.List.{drop_more}
 use Rattle.mal_pool.specs.Testing.{HasContents, HasStep, HasSteps}
@@ -8,7 +8,7 @@ use Rattle.spec_hall.specs.Dressed.{revisions_of}
 use Rattle.spec_hall.specs.Events.{Event}
 use Rattle.spec_hall.specs.States.{states}
 use Rattle.spec_run.specs.Complete.{key_of_job}
-use Rattle.spec_script.specs.Script.{ScriptedJob, revisions, revisions_at, revisions_in}
+use Rattle.spec_script.specs.Script.{ScriptedJob, revisions_at, revisions_in}
 use Rattle.spec_script.specs.declared.step.Step.{Step}
 use Rattle.spec_script.specs.declared.step.Step.TheVariants.{Revise, Reask}
 

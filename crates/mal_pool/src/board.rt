@@ -30,12 +30,13 @@ pub trait Board: Desk + Drop {
         ensures of { Self.is_of self.now result.0 }
         ensures calls { Self.calls result.0 ≡ Self.calls pass ++ Posted post result.1 ∷ [] };
 
-    /// A second pass, for another caller.
+    /// A second pass, for another caller, by which no call was made.
     fn split(&self, pass: Self::Pass) -> (Self::Pass, Self::Pass)
         requires of { Self.is_of self.now pass }
         ensures of { Self.is_of self.now result.0 }
         ensures other { Self.is_of self.now result.1 }
-        ensures calls { Self.calls result.0 ≡ Self.calls pass };
+        ensures calls { Self.calls result.0 ≡ Self.calls pass }
+        ensures none { Self.calls result.1 ≡ [] };
 
     /// One pass of two, which tells the calls of both.
     fn join(&self, pass: Self::Pass, other: Self::Pass) -> Self::Pass

@@ -5,6 +5,7 @@
 mod answering;
 mod board;
 mod due;
+mod entry;
 mod gate;
 mod laws;
 mod leaving;
@@ -20,11 +21,12 @@ mod working;
 
 pub use answering::{replies, replies_by};
 pub use board::Board;
+pub use entry::{Entry, Noted};
 pub use gate::{Gate, PlainGate, Point, Step};
 pub use laws::loops_end_so;
 pub use mal_hall::Size;
 pub use mal_turn::InUse;
-pub use mutex::{Noted, OwnCalls, Shared};
+pub use mutex::{OwnCalls, Shared};
 pub use run::{run_all, run_with};
 pub use running::{post_script, run_alone};
 pub use shared::HallBox;

@@ -4,31 +4,24 @@ ghost use Rattle.std.specs.Prelude.{◌≡◌, []};
 ghost use Rattle.mal_pool.specs.Traces.{traced};
 
 use crate::board::Board;
+use crate::entry::Entry;
 use crate::shared::HallBox;
 use crate::trace::Trace;
 use mal_hall::{Desk, FinishAnswer, Hall, PickAnswer, Post, PostFault, Size};
 use mal_suspend::Done;
 use mal_turn::InUse;
-use std::snapshot::Snapshot;
 use std::sync::{Mutex, Wait};
 
-/// One call with its answer, as a pass tells it. It has no bytes but those of the worker's number.
+/// A caller's own calls of a hall of so many workers, in their order, each answered as the hall did. It has no bytes but
+/// those of the last call.
 #[derive(Drop)]
-pub enum Noted {
-    Picked(u32, Snapshot<PickAnswer>),
-    Gave(Snapshot<Done>, Snapshot<FinishAnswer>),
-    Posted(Snapshot<Post>, Snapshot<Result<(), PostFault>>),
+pub struct OwnCalls<S: Size> {
+    log: Trace<Entry<S>>,
 }
 
-/// A caller's own calls, in their order. It has no bytes but those of the last call.
-#[derive(Drop)]
-pub struct OwnCalls {
-    log: Trace<Noted>,
-}
-
-impl OwnCalls {
+impl<S: Size> OwnCalls<S> {
     /// No call yet.
-    pub fn new() -> OwnCalls
+    pub fn new() -> OwnCalls<S>
         ensures { traced result.log ≡ [] }
     {
         OwnCalls { log: Trace::new() }
@@ -54,26 +47,28 @@ impl<S: Size + Send + Sync> Desk for Shared<S> {
     ghost use Rattle.std.specs.Prelude.{map};
     ghost use Rattle.mal_pool.specs.{Noting.{told_of}, Traces.{traced}};
 
-    type Pass = OwnCalls;
+    type Pass = OwnCalls<S>;
 
     ghost workers = { λ desk. S.workers };
 
     ghost is_of = { λ desk pass. Unit {0} };
 
-    ghost calls = { λ pass. map told_of (traced pass.log) };
+    ghost calls = { λ pass. map (λ e. told_of e.noted) (traced pass.log) };
 
-    fn pick<R: Wait>(&self, rt: &R, pass: OwnCalls, worker: u32) -> (OwnCalls, PickAnswer) {
-        let answer = self.kept.lock(rt).pick(worker);
-        let noted = Noted::Picked(worker, Snapshot::of(&answer));
-        let log = pass.log.and(noted);
+    fn pick<R: Wait>(&self, rt: &R, pass: OwnCalls<S>, worker: u32) -> (OwnCalls<S>, PickAnswer) {
+        let (answer, entry) = self.kept.lock(rt).pick(worker);
+        let log = pass.log.and(entry);
         (OwnCalls { log }, answer)
     }
 
-    fn finish<R: Wait>(&self, rt: &R, pass: OwnCalls, back: Done) -> (OwnCalls, FinishAnswer) {
-        let given = Snapshot::of(&back);
-        let answer = self.kept.lock(rt).finish(back);
-        let noted = Noted::Gave(given, Snapshot::of(&answer));
-        let log = pass.log.and(noted);
+    fn finish<R: Wait>(
+        &self,
+        rt: &R,
+        pass: OwnCalls<S>,
+        back: Done,
+    ) -> (OwnCalls<S>, FinishAnswer) {
+        let (answer, entry) = self.kept.lock(rt).finish(back);
+        let log = pass.log.and(entry);
         (OwnCalls { log }, answer)
     }
 }
@@ -86,26 +81,24 @@ impl<S: Size + Send + Sync> Board for Shared<S> {
     fn post<R: Wait>(
         &self,
         rt: &R,
-        pass: OwnCalls,
+        pass: OwnCalls<S>,
         post: Post,
-    ) -> (OwnCalls, Result<(), PostFault>) {
-        let posted = Snapshot::of(&post);
-        let answer = self.kept.lock(rt).post(post);
-        let noted = Noted::Posted(posted, Snapshot::of(&answer));
-        let log = pass.log.and(noted);
+    ) -> (OwnCalls<S>, Result<(), PostFault>) {
+        let (answer, entry) = self.kept.lock(rt).post(post);
+        let log = pass.log.and(entry);
         (OwnCalls { log }, answer)
     }
 
-    fn split(&self, pass: OwnCalls) -> (OwnCalls, OwnCalls) {
+    fn split(&self, pass: OwnCalls<S>) -> (OwnCalls<S>, OwnCalls<S>) {
         (pass, OwnCalls::new())
     }
 
-    fn join(&self, pass: OwnCalls, other: OwnCalls) -> OwnCalls {
+    fn join(&self, pass: OwnCalls<S>, other: OwnCalls<S>) -> OwnCalls<S> {
         let log = pass.log.with(other.log);
         OwnCalls { log }
     }
 
-    fn close(self, pass: OwnCalls) -> Result<Hall, InUse> {
+    fn close(self, pass: OwnCalls<S>) -> Result<Hall, InUse> {
         drop(pass);
         let Shared { kept } = self;
         Ok(kept.into_inner().into_hall())

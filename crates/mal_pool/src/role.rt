@@ -34,9 +34,10 @@ pub struct Role<P> {
     pub part: Part,
 }
 
-/// What a part hands back: its pass, how far it posted where it was hindered, and whether the gate stopped it.
+/// A part that was played: its pass, how far it posted where it was hindered, and whether the gate stopped it.
 #[derive(Drop)]
 pub struct Played<P> {
+    pub part: Part,
     pub pass: P,
     pub hindered: Option<Hindered>,
     pub stopped: bool,
@@ -54,6 +55,7 @@ pub fn play<R: Wait, B: Board, G: Gate>(
     requires of { B.is_of board.now role.pass }
     requires fits { Fits (B.workers board.now) jobs.now role.part }
     ensures of { B.is_of board.now result.pass }
+    ensures part { result.part ≡ role.part }
     ensures played { (mine : List DeskCall) × (B.calls result.pass ≡ B.calls role.pass ++ mine)
         × HasPlayed (G.stops gate.now) jobs.now role.part result.hindered result.stopped mine }
     ensures stopped { result.stopped ≡ true → StopsSomewhere (G.stops gate.now) }
@@ -63,6 +65,7 @@ pub fn play<R: Wait, B: Board, G: Gate>(
             let tenant = jobs[place].tenant();
             let (pass, hindered) = post_all(rt, board, role.pass, tenant, jobs);
             Played {
+                part: role.part,
                 pass,
                 hindered,
                 stopped: false,
@@ -73,6 +76,7 @@ pub fn play<R: Wait, B: Board, G: Gate>(
             let (pass, stopped) = work(rt, board, role.pass, number, &mut scratch, gate);
             drop(scratch);
             Played {
+                part: role.part,
                 pass,
                 hindered: None,
                 stopped,

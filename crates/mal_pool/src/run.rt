@@ -1,9 +1,9 @@
 //! Running a script with many workers.
 
-ghost use Rattle.std.specs.Prelude.{◌≡◌, ◌≤◌, min, true, List, [], map, IfOk, IfSome, OnOk};
+ghost use Rattle.std.specs.Prelude.{◌≡◌, ◌≤◌, min, true, List, [], ◌++◌, map, IfOk, IfSome, OnOk};
 ghost use Rattle.std.specs.List.{All, filter_map, list_any};
 ghost use Rattle.std.specs.Option.{option_map};
-ghost use Rattle.mal_pool.specs.{Gates.{LosesByStops, StopsSomewhere}, Parts.{AreParts, ArePosters, Fits, demand_of}, Posts.{HasRun}, Runs.{IsSettled}, Testing.{HasPosts}};
+ghost use Rattle.mal_pool.specs.{Gates.{LosesByStops, StopsSomewhere}, Parts.{AreParts, ArePosters, Fits, HasPlayed, demand_of}, Posts.{HasRun}, Runs.{IsSettled, open_post, taken}, Sharing.{HasClosed, HasCome, HasComeBy}, Testing.{HasPosts}, Traces.{IsWithin}};
 ghost use Rattle.spec_hall.specs.{Driven.{GrowsByTurns, IsDriven}, Events.{Event}, Legal.{Legal}, States.{leases, lives, states}};
 ghost use Rattle.spec_run.specs.{Complete.{script_events}, Losses.{NoneIsLost, is_loss}};
 
@@ -26,7 +26,7 @@ use std::thread::{self, Threads};
 /// Runs a script with 1 to 64 workers. With one worker no thread is made and nothing is waited for: all jobs are
 /// opened, then job by job its revisions and its closing are posted, and the hall is driven. With more, tenants post
 /// and workers work at the same time, each in a thread where one can be had, and share the hall by a lock.
-#[tactic(auto, using(crate::proofs::RunLosses::alone_by_stops))]
+#[tactic(auto, using(crate::proofs::RunLosses::alone_by_stops, crate::proofs::Sharings::come_alone))]
 pub fn run_all<R: Threads + Wait + Sync, G: Gate>(
     rt: &R,
     alloc: Global,
@@ -38,6 +38,7 @@ pub fn run_all<R: Threads + Wait + Sync, G: Gate>(
     requires bound { workers ≤ 64 }
     ensures run { IfOk result (λ h. HasRun workers script.now h) }
     ensures sequential { workers ≡ 1 → IfOk result (λ h. IsDriven workers (script_events script.now) h.events) }
+    ensures came { IfOk result (λ h. HasComeBy (G.stops gate.now) workers script.now h.events) }
     ensures lost { IfOk result (λ h. LosesByStops (G.stops gate.now) h.events) }
 {
     if workers == 1 {
@@ -47,6 +48,7 @@ pub fn run_all<R: Threads + Wait + Sync, G: Gate>(
 }
 
 /// Runs a script in threads that share a hall by a lock.
+#[tactic(auto, using(crate::proofs::Sharings::come_by_calls))]
 fn run_locked<S: Size + Send + Sync, R: Threads + Wait + Sync, G: Gate>(
     rt: &R,
     alloc: Global,
@@ -58,6 +60,7 @@ fn run_locked<S: Size + Send + Sync, R: Threads + Wait + Sync, G: Gate>(
     requires bound { workers ≤ 64 }
     requires size { workers ≡ S.workers }
     ensures run { IfOk result (λ h. HasRun workers script.now h) }
+    ensures came { IfOk result (λ h. HasComeBy (G.stops gate.now) workers script.now h.events) }
     ensures lost { IfOk result (λ h. LosesByStops (G.stops gate.now) h.events) }
 {
     let board: Shared<S> = Shared::new(HallBox::new(Hall::new(alloc, workers)?));
@@ -67,7 +70,7 @@ fn run_locked<S: Size + Send + Sync, R: Threads + Wait + Sync, G: Gate>(
 /// Runs a script over a board, whose hall has so many workers, 1 to 64, and no event yet. With one worker no thread is
 /// made, and the board is given up. With more, tenants post and workers work at the same time, each in a thread where one
 /// can be had. Where what they bring about does not serve, a new hall is run on this thread in its place.
-#[tactic(auto, using(crate::proofs::RunLosses::alone_by_stops))]
+#[tactic(auto, using(crate::proofs::RunLosses::alone_by_stops, crate::proofs::Sharings::come_alone))]
 pub fn run_with<R: Threads + Wait + Sync, B: Board, G: Gate>(
     rt: &R,
     alloc: Global,
@@ -83,6 +86,7 @@ pub fn run_with<R: Threads + Wait + Sync, B: Board, G: Gate>(
     requires size { B.workers board ≡ workers }
     ensures run { IfOk result (λ h. HasRun workers script.now h) }
     ensures sequential { workers ≡ 1 → IfOk result (λ h. IsDriven workers (script_events script.now) h.events) }
+    ensures came { IfOk result (λ h. HasCome B.calls B.leaves (G.stops gate.now) workers script.now h.events) }
     ensures lost { IfOk result (λ h. LosesByStops (G.stops gate.now) h.events) }
 {
     if workers == 1 {
@@ -112,6 +116,8 @@ fn run_shared<R: Threads + Wait + Sync, B: Board, G: Gate>(
     requires bound { workers ≤ 64 }
     requires size { B.workers board ≡ workers }
     ensures run { IfOk result (λ o. IfSome o (λ h. HasRun workers script.now h)) }
+    ensures came { IfOk result
+        (λ o. IfSome o (λ h. HasCome B.calls B.leaves (G.stops gate.now) workers script.now h.events)) }
     ensures lost { IfOk result (λ o. IfSome o (λ h. LosesByStops (G.stops gate.now) h.events)) }
 {
     let Some((pass, played)) = share(rt, alloc, &board, pass, script.jobs(), workers, gate)? else {
@@ -169,7 +175,8 @@ fn take_down<B: Board>(
     ensures settled { IfOk result
         (λ o. IfSome o
         (λ h. (before : List Event) × NoneIsLost before
-        × IsSettled h.workers jobs.now (filter_map (λ x. option_map (λ h. h.left) x.hindered) played.items) before h.events)) }
+        × IsSettled h.workers jobs.now (filter_map (λ x. option_map (λ h. h.left) x.hindered) played.items) before h.events
+        × HasClosed B.calls B.leaves pass (λ x. B.calls x.pass) played.items before)) }
 {
     let left = left_of(alloc, &played)?;
     let pass = join_all(&board, pass, played);
@@ -253,6 +260,12 @@ fn share<R: Threads + Wait + Sync, B: Board, G: Gate>(
     requires size { B.workers board.now ≡ workers }
     requires bound { workers ≤ 64 }
     ensures of { IfOk result (λ o. IfSome o (λ r. B.is_of board.now r.0)) }
+    ensures opened { IfOk result
+        (λ o. IfSome o (λ r. B.calls r.0 ≡ B.calls pass ++ taken (map open_post jobs.now))) }
+    ensures parts { IfOk result (λ o. IfSome o (λ r. AreParts workers jobs.now (map (λ x. x.part) r.1.items))) }
+    ensures played { IfOk result
+        (λ o. IfSome o
+        (λ r. All (λ x. HasPlayed (G.stops gate.now) jobs.now x.part x.hindered x.stopped (B.calls x.pass)) r.1.items)) }
     ensures all { IfOk result
         (λ o. IfSome o
         (λ r. All (λ x. B.is_of board.now x.pass × (x.stopped ≡ true → StopsSomewhere (G.stops gate.now))) r.1.items)) }
@@ -288,6 +301,10 @@ fn play_all<R: Threads + Wait + Sync, B: Board, G: Gate>(
     requires size { B.workers board.now ≡ workers }
     requires bound { workers ≤ 64 }
     ensures of { IfOk result (λ r. B.is_of board.now r.0) }
+    ensures calls { IfOk result (λ r. B.calls r.0 ≡ B.calls pass) }
+    ensures parts { IfOk result (λ r. AreParts workers jobs.now (map (λ x. x.part) r.1.items)) }
+    ensures played { IfOk result
+        (λ r. All (λ x. HasPlayed (G.stops gate.now) jobs.now x.part x.hindered x.stopped (B.calls x.pass)) r.1.items) }
     ensures all { IfOk result
         (λ r. All (λ x. B.is_of board.now x.pass × (x.stopped ≡ true → StopsSomewhere (G.stops gate.now))) r.1.items) }
 {
@@ -299,7 +316,11 @@ fn play_all<R: Threads + Wait + Sync, B: Board, G: Gate>(
         &|role: Role<B::Pass>| -> Played<B::Pass>
             requires of { B.is_of board.now role.pass }
             requires fits { Fits (B.workers board.now) jobs.now role.part }
+            requires none { B.calls role.pass ≡ [] }
             ensures of { B.is_of board.entry.now result.pass }
+            ensures part { result.part ≡ role.part }
+            ensures played { HasPlayed (G.stops gate.entry.now) jobs.entry.now result.part result.hindered result.stopped
+                (B.calls result.pass) }
             ensures stopped { result.stopped ≡ true → StopsSomewhere (G.stops gate.entry.now) }
         { play(rt, alloc, board, jobs, gate, role) },
     )?;
@@ -350,7 +371,7 @@ fn useful(jobs: &[ScriptJob], workers: u32) -> u32
     sum
 }
 
-/// Gives each part a pass of its own, in their order.
+/// Gives each part a pass of its own by which no call was made, in their order.
 fn deal<B: Board>(
     alloc: Global,
     board: &B,
@@ -361,8 +382,10 @@ fn deal<B: Board>(
     requires of { B.is_of board.now pass }
     requires fits { All (Fits (B.workers board.now) jobs.now) parts.now }
     ensures of { IfOk result (λ r. B.is_of board.now r.0) }
+    ensures calls { IfOk result (λ r. B.calls r.0 ≡ B.calls pass) }
     ensures roles { IfOk result
-        (λ r. All (λ x. B.is_of board.now x.pass × Fits (B.workers board.now) jobs.now x.part) r.1.items) }
+        (λ r. All (λ x. B.is_of board.now x.pass × Fits (B.workers board.now) jobs.now x.part × (B.calls x.pass ≡ []))
+        r.1.items) }
     ensures parts { IfOk result (λ r. map (λ x. x.part) r.1.items ≡ parts.now) }
 {
     // For the proof.
@@ -394,11 +417,13 @@ fn left_of<P: Drop>(alloc: Global, played: &[Played<P>]) -> Result<Vec<Left>, Al
     Ok(left)
 }
 
-/// Puts the passes together.
+/// Puts the passes together: the result tells the calls of each.
 fn join_all<B: Board>(board: &B, pass: B::Pass, played: Vec<Played<B::Pass>>) -> B::Pass
     requires of { B.is_of board.now pass }
     requires all { All (λ x. B.is_of board.now x.pass) played.items }
-    ensures { B.is_of board.now result }
+    ensures of { B.is_of board.now result }
+    ensures mine { IsWithin (B.calls pass) (B.calls result) }
+    ensures each { All (λ x. IsWithin (B.calls x.pass) (B.calls result)) played.items }
 {
     let mut pass = pass;
     for one in played {

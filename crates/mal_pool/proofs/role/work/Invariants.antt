@@ -1,4 +1,4 @@
-use Rattle.std.proofs.Common.{◌≡◌, ◌-◌}
+use Rattle.std.proofs.Common.{◌-◌}
 use Rattle.mal_pool.specs.Making.{HasLooped}
 use Rattle.mal_pool.proofs.role.work.Given as goal
 

@@ -1,6 +1,5 @@
-use Rattle.std.proofs.Common.{◌≡◌, ◌+◌, ◌≤◌, ◌++◌, ℕ, List, map, min, refl, ◌∙◌, ap, arith}
+use Rattle.std.proofs.Common.{◌≡◌, ◌+◌, ◌++◌, ℕ, map, min, refl, ◌∙◌, ap, arith}
 use Rattle.mal_pool.specs.Parts.{demand_of}
-use Rattle.mal_pool.specs.declared.role.Part.{Part}
 use Rattle.mal_pool.specs.declared.role.Part.TheVariants as parts
 use Rattle.mal_pool.proofs.Parting.{none-counted, workers-more}
 use Rattle.spec_node.specs.Load.{counted}

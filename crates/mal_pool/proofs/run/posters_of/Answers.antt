@@ -1,8 +1,7 @@
-use Rattle.std.proofs.Common.{◌≡◌, ◌<◌, ◌++◌, [], ◌∷◌, List, ℕ, Bool, true, false, bytes_eq, length, sym, ◌∙◌, ap, subst, subst₂, arith}
+use Rattle.std.proofs.Common.{◌≡◌, ◌<◌, ◌++◌, [], ◌∷◌, List, ℕ, bytes_eq, length, sym, ◌∙◌, ap, arith}
 use Rattle.std.specs.List.{list_any}
-use Rattle.mal_pool.specs.declared.role.Part.{Part}
 use Rattle.mal_pool.specs.declared.role.Part.TheVariants as parts
-use Rattle.mal_pool.proofs.Parting.{AreDrawn, drawn-more, names-new, names-same}
+use Rattle.mal_pool.proofs.Parting.{drawn-more, names-new, names-same}
 use Rattle.mal_pool.proofs.run.posters_of.Goals.{then-not-has_name+in_ok-push+in_ok-push-2, else-not-has_name}
 use Rattle.mal_pool.proofs.run.posters_of.Goals as goal
 

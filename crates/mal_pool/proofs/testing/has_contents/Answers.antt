@@ -1,4 +1,4 @@
-use Rattle.std.proofs.Common.{ℕ, ◌+◌, ap, arith, length}
+use Rattle.std.proofs.Common.{ℕ, ◌+◌, ap, length}
 use Rattle.mal_pool.proofs.Stepping.{few-more, step-at, steps-more}
 use Rattle.mal_pool.proofs.testing.has_contents.Goals as goal
 use Rattle.spec_script.specs.Script.{revisions_in}
