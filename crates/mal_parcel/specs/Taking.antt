@@ -1,9 +1,8 @@
 -- What stands at the front of bytes, and what is behind it.
-use Rattle.std.specs.Prelude.{◌≡◌, ℕ, ◌<◌, ◌≤◌, ◌^◌, Bool, List, take, drop, length, Option, Some, None, option_map, nat_lt, if◌then◌else◌}
+use Rattle.std.specs.Prelude.{◌≡◌, ℕ, ◌<◌, ◌≤◌, ◌^◌, List, take, drop, length, Option, Some, None, option_map, nat_lt, if◌then◌else◌}
 use Rattle.std.specs.Int.{w64, from_be_bytes}
 use Rattle.mal_base.specs.declared.answer.Answer.{Answer}
 use Rattle.mal_base.specs.declared.answer.Answer.TheVariants.{Satisfied, Refuted, Spent, OutOfStarts}
-use Rattle.spec_parcel.specs.Packed.{Placed, Told}
 
 -- what was taken, in this view, is this
 abbrev pub Takes : {X Y : Type 0} → (X → Y) → Option X → Option Y → Type 0
@@ -20,14 +19,6 @@ number_at bytes = if nat_lt (length bytes) 8 then None else Some (from_be_bytes 
 -- so many bytes at the front, and what is behind them
 abbrev pub front_at : ℕ → List ℕ → Option (List ℕ × List ℕ)
 front_at n bytes = if nat_lt (length bytes) n then None else Some (take n bytes, drop n bytes)
-
--- a node of this index and this image
-abbrev pub node_in : ℕ → List ℕ → Placed
-node_in index image = record { index = index; image = image }
-
--- a slice of so many lines with this text
-abbrev pub slice_in : Bool → ℕ → List ℕ → Told
-slice_in ends count text = record { ends = ends; count = count; text = text }
 
 -- an answer has a value for each of so many variables, where it is a model
 abbrev pub HasValues : ℕ → Answer → Type 0

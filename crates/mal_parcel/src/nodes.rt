@@ -1,11 +1,11 @@
 //! The section of the nodes that have run.
 
-ghost use Rattle.std.specs.Prelude.{◌≡◌, ℕ, ◌≤◌, ◌++◌, List, All, flat_map, IfOk, OnOk};
+ghost use Rattle.std.specs.Prelude.{◌≡◌, ◌≤◌, ◌++◌, All, flat_map, IfOk, OnOk};
 ghost use Rattle.spec_job.specs.Counts.{starts_out};
-ghost use Rattle.spec_parcel.specs.{Apart.{FitsPlaced}, Packed.{Placed, listed, node_bytes, placed_bytes, ran_indices}};
-ghost use Rattle.mal_parcel.specs.{Parcelled.{IsReadBack}, Taking.{Takes, found, node_in}};
+ghost use Rattle.spec_parcel.specs.Packed.{listed, node_bytes, placed_bytes, ran_indices};
+ghost use Rattle.mal_parcel.specs.Parcelled.{IsReadBack};
 
-use crate::sized::{put_length, put_number, put_sized, take_number, take_sized};
+use crate::sized::{put_length, put_number, put_sized};
 use mal_job::Job;
 use mal_learn::Scratch;
 use std::alloc::{AllocError, Global};
@@ -81,14 +81,4 @@ pub fn put_node(out: &mut Vec<u8>, index: u32, image: &[u8]) -> Result<(), Alloc
 {
     put_number(out, u64::from(index))?;
     put_sized(out, image)
-}
-
-/// The index and the image of the node at the front, and what stands behind them.
-pub fn take_node(bytes: &[u8]) -> Option<(u64, &[u8], &[u8])>
-    ensures { (p : Placed) (more : List ℕ) → FitsPlaced p → bytes.now ≡ placed_bytes p ++ more
-        → Takes (λ x. (node_in x.0 x.1.now, x.2.now)) result (found p more) }
-{
-    let (index, rest) = take_number(bytes)?;
-    let (image, rest) = take_sized(rest)?;
-    Some((index, image, rest))
 }

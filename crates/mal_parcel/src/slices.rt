@@ -6,13 +6,12 @@ ghost use Rattle.spec_job.specs.SoloMachine.{Slice};
 ghost use Rattle.spec_text.specs.Lines.{line_of};
 ghost use Rattle.spec_proof.specs.Log.{added};
 ghost use Rattle.spec_lrat.specs.Written.{row_of};
-ghost use Rattle.mal_freeze.specs.Spelling.{phase_code, spelled};
-ghost use Rattle.std.specs.Int.{w64};
-ghost use Rattle.spec_parcel.specs.{Apart.{FitsTold}, Packed.{Told, listed, sized, slice_bytes}};
-ghost use Rattle.mal_parcel.specs.Taking.{Takes, found, slice_in};
+ghost use Rattle.mal_freeze.specs.Spelling.{phase_code};
+ghost use Rattle.spec_parcel.specs.Packed.{listed, slice_bytes};
+ghost use Rattle.mal_parcel.specs.Taking.{Takes, found};
 
 use crate::answers::phase_code;
-use crate::sized::{put_length, put_sized, take_number, take_sized};
+use crate::sized::{put_length, put_sized};
 use mal_base::Lines;
 use mal_job::Job;
 use mal_lrat::put_added;
@@ -92,14 +91,4 @@ pub fn take_ends(bytes: &[u8]) -> Option<(bool, &[u8])>
         [] => None,
         [byte, rest @ ..] => Some((*byte == 1, rest)),
     }
-}
-
-/// How many lines a slice logged and their text, which stand behind its first byte, and what stands behind them.
-pub fn take_text(bytes: &[u8]) -> Option<(u64, &[u8], &[u8])>
-    ensures { (t : Told) (more : List ℕ) → FitsTold t → bytes.now ≡ (spelled w64 t.count ++ sized t.text) ++ more
-        → Takes (λ x. (slice_in t.ends x.0 x.1.now, x.2.now)) result (found t more) }
-{
-    let (count, rest) = take_number(bytes)?;
-    let (text, rest) = take_sized(rest)?;
-    Some((count, text, rest))
 }
