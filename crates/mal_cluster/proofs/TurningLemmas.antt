@@ -1,11 +1,13 @@
 -- Halls that take their turns, and what has begun.
-use Rattle.std.proofs.Common.{◌≡◌, ◌≢◌, ◌⊎◌, ℕ, zero, suc, ◌+◌, ◌-◌, ◌%◌, ◌<◌, ◌≤◌, Bool, true, false, cond, List, [], ◌∷◌, ◌++◌, length, drop, take, map, flat_map, get_or, slice_set, Option, Some, None, Result, Ok, Err, inl, inr, refl, sym, ◌∙◌, ap, subst, arith, append-nil, append_assoc}
+use Rattle.std.proofs.Common.{◌≡◌, ◌≢◌, ℕ, zero, suc, ◌+◌, ◌-◌, ◌%◌, ◌<◌, ◌≤◌, Bool, true, false, cond, List, [], ◌∷◌, ◌++◌, length, drop, take, map, flat_map, get_or, slice_set, Option, Some, None, Result, Ok, Err, inl, inr, refl, sym, ◌∙◌, ap, subst, arith, append-nil, append_assoc}
 use Rattle.std.specs.Prelude.{OnErr, OnOk}
 use Rattle.std.specs.List.{list_any}
 use Rattle.std.proofs.lemmas.Bool.{both_ways, cases_lt, or_from}
 use Rattle.std.proofs.lemmas.List.{drop_all, drop_more, get_or-map, get_or-set_same, length-map, length-set}
 use Rattle.std.proofs.lemmas.List.Folds.{list_any-append}
+use Rattle.mal_base.specs.declared.hall_fault.PickFault.TheVariants.{OutOfMemory}
 use Rattle.spec_job.specs.KeyedJob.{Key}
+use Rattle.spec_hall.specs.Calls.{HasCalled, Picks}
 use Rattle.spec_hall.specs.Driven.{AreTurns, Balances, Exchanges, GrowsByTurns, Slices, Turn, events_in}
 use Rattle.spec_hall.specs.Events.{Event, Arrive, Leave, moves}
 use Rattle.spec_hall.specs.Legal.{Legal}
@@ -21,8 +23,8 @@ use Rattle.spec_cluster.specs.declared.fault.MoveFault.{MoveFault}
 use Rattle.spec_cluster.specs.declared.fault.MoveFault.TheVariants as moving
 use Rattle.spec_cluster.specs.Calls.{IsMoving, went}
 use Rattle.spec_cluster.specs.Clusters.{Cluster, IsCluster, home, is_there, with_hall}
-use Rattle.spec_cluster.specs.Laws.{Grows, grown}
-use Rattle.spec_cluster.specs.Rounds.{AllTurn, AreRounds, GoRounds, HasBegun, IsBrokenOff, IsGoing, IsPart, IsRound, IsTurning, carried, goes, is_live, may_come, next_hall}
+use Rattle.spec_cluster.specs.Laws.{Grows}
+use Rattle.spec_cluster.specs.Rounds.{AllTurn, AreRounds, GoRounds, HasBegun, IsPart, IsRound, IsTurning, StopsShort, carried, goes, is_live, may_come, next_hall}
 use Rattle.spec_cluster.specs.Visits.{Move, hall_at, opens}
 use Rattle.spec_cluster.proofs.GoesLemmas.{moves-go_on}
 use Rattle.spec_cluster.proofs.GrowthLemmas.{growth-keeps}
@@ -44,11 +46,11 @@ turned-more w v past mid now ran same has turn = record { grows = turns-more w p
 abbrev pub GoesOn : ℕ → ℕ → ℕ → List Event → List Event → Type 0
 GoesOn w every made past mid = (now : List Event) → TakesTurn w (every - made) mid now → TakesTurn w every past now
 
+less-none : (n : ℕ) → n - 0 ≡ n
+less-none n = omega arith
+
 pub goes-first : (w every : ℕ) (past : List Event) → GoesOn w every 0 past past
-goes-first w every past now turn = subst (λ (n : ℕ). TakesTurn w n past now) (none every) turn
-  where
-    none : (n : ℕ) → n - 0 ≡ n
-    none n = omega arith
+goes-first w every past now turn = subst (λ (n : ℕ). TakesTurn w n past now) (less-none every) turn
 
 one-less : (n m : ℕ) → m < n → n - m ≡ suc (n - (m + 1))
 one-less n m low = omega arith
@@ -58,6 +60,19 @@ goes-waited w v every made past mid now b low same goes turn q = goes now (subst
 
 pub goes-sliced : {E : Type 0} (w v every made : ℕ) (past mid now : List Event) (b : Bool) → made < every → v ≡ w → GoesOn w every made past mid → IsTurn {E = E} v mid (Ok b) now → b ≡ true → GoesOn w every (made + 1) past now
 goes-sliced w v every made past mid now b low same goes turn q end rest = goes end (subst (λ (n : ℕ). TakesTurn w n mid end) (sym (one-less every made low)) (inr (now, subst (λ (u : ℕ). IsSlice u mid now) same (turn.slice q), rest)))
+
+-- and stops short of it where it stops short
+abbrev pub StopsOn : ℕ → ℕ → ℕ → List Event → List Event → Type 0
+StopsOn w every made past mid = (now : List Event) → StopsShort w (every - made) mid now → StopsShort w every past now
+
+pub stops-first : (w every : ℕ) (past : List Event) → StopsOn w every 0 past past
+stops-first w every past now short = subst (λ (n : ℕ). StopsShort w n past now) (less-none every) short
+
+pub stops-sliced : {E : Type 0} (w v every made : ℕ) (past mid now : List Event) (b : Bool) → made < every → v ≡ w → StopsOn w every made past mid → IsTurn {E = E} v mid (Ok b) now → b ≡ true → StopsOn w every (made + 1) past now
+stops-sliced w v every made past mid now b low same stops turn q end rest = stops end (subst (λ (n : ℕ). StopsShort w n mid end) (sym (one-less every made low)) (inr (now, subst (λ (u : ℕ). IsSlice u mid now) same (turn.slice q), rest)))
+
+pub stops-wanting : {E : Type 0} (w v every made : ℕ) (past mid now : List Event) (e : E) → made < every → v ≡ w → StopsOn w every made past mid → IsTurn v mid (Err e) now → StopsShort w every past now
+stops-wanting w v every made past mid now e low same stops turn = stops now (subst (λ (n : ℕ). StopsShort w n mid now) (sym (one-less every made low)) (inl (subst (λ (u : ℕ). HasCalled u mid (Picks 1) (Err OutOfMemory) now) same turn.wanting)))
 
 pub goes-last : (w every made : ℕ) (past now : List Event) → every ≤ made → GoesOn w every made past now → TakesTurn w every past now
 goes-last w every made past now high goes = goes now (subst (λ (n : ℕ). TakesTurn w n now now) (sym (none every made high)) refl)
@@ -122,8 +137,8 @@ module _ (w : ℕ) (halls : List HallView) (noted : List Move) (n : ℕ) (before
   pub calm-at : leases before.events ≡ []
   calm-at = ap leases (sym was) ∙ kept.cluster.calm n
 
-  pub turn-at : (every : ℕ) → TakesTurn before.workers every before.events after.events → TakesTurn w every (hall_at (histories halls) n) (hall_at (histories (slice_set halls n after)) n)
-  turn-at every turn = subst (TakesTurn w every (hall_at (histories halls) n)) (sym now-at) (subst (λ (h : List Event). TakesTurn w every h after.events) (sym was) (subst (λ (v : ℕ). TakesTurn v every before.events after.events) workers-is turn))
+  pub turn-at : (Turns : ℕ → List Event → List Event → Type 0) → Turns before.workers before.events after.events → Turns w (hall_at (histories halls) n) (hall_at (histories (slice_set halls n after)) n)
+  turn-at Turns turn = subst (Turns w (hall_at (histories halls) n)) (sym now-at) (subst (λ (h : List Event). Turns w h after.events) (sym was) (subst (λ (v : ℕ). Turns v before.events after.events) workers-is turn))
 
   turns-at : HasTurns before.workers before.events after.events → HasTurns w (hall_at (histories halls) n) after.events
   turns-at has = subst (λ (h : List Event). HasTurns w h after.events) (sym was) (subst (λ (v : ℕ). HasTurns v before.events after.events) workers-is has)
@@ -401,13 +416,14 @@ pub wanting-same : (c after : Cluster) (k : Key) (to : ℕ) (answer : Result (Un
 wanting-same c after k to answer fault is memory call = (subst (λ (r : Result (Unit {0}) MoveFault). IsMoving c k to r after) (is ∙ ap (λ (f : MoveFault). Err f) memory) call).2
 
 -- the turns of the halls broke off in that of the hall at a place
-pub turning-broken : (every at : ℕ) (c mid now : Cluster) → AreTurning every at c mid → at < length mid.halls → HasTurnsAt mid at now → IsTurning every at c now
-turning-broken every at c mid now are low has = record {
+pub turning-broken : (every at : ℕ) (c mid now : Cluster) → AreTurning every at c mid → at < length mid.halls → HasTurnsAt mid at now → StopsShort mid.workers every (hall_at mid.halls at) (hall_at now.halls at) → IsTurning every at c now
+turning-broken every at c mid now are low has stopped = record {
+  within = subst (λ (m : ℕ). at < m) are.size low;
   workers = ap (λ (x : Cluster). x.workers) has.kept ∙ are.workers;
   size = ap (λ (hs : List (List Event)). length hs) halls ∙ (length-set mid.halls at (hall_at now.halls at) ∙ are.size);
   moves = ap (λ (x : Cluster). x.moves) has.kept ∙ are.moves;
   done = at-now (λ m h. m < at → TakesTurn c.workers every (hall_at c.halls m) h) (λ below. absurd (over at below)) (λ m other below. are.done m below);
-  begun = subst (λ (h : List Event). GrowsByTurns c.workers h (hall_at now.halls at)) (are.left at (omega arith)) (subst (λ (v : ℕ). GrowsByTurns v (hall_at mid.halls at) (hall_at now.halls at)) are.workers has.turns.grows);
+  begun = subst (λ (h : List Event). StopsShort c.workers every h (hall_at now.halls at)) (are.left at (omega arith)) (subst (λ (v : ℕ). StopsShort v every (hall_at mid.halls at) (hall_at now.halls at)) are.workers stopped);
   left = at-now (λ m h. at < m → h ≡ hall_at c.halls m) (λ high. absurd (over at high)) (λ m other high. are.left m (above m at high));
 }
   where

@@ -10,6 +10,3 @@ mod rounds;
 pub use cluster::Cluster;
 pub use moves::Move;
 pub use spec_cluster::MoveFault;
-
-#[cfg(test)]
-mod tests;

@@ -4,7 +4,7 @@ ghost use Rattle.std.specs.Prelude.{◌≡◌, ◌≢◌, ◌≤◌, ◌<◌, �
 ghost use Rattle.mal_cluster.specs.{Kept.{histories}, Turning.{HasTurns, HasTurnsAt, any_live, chosen_key}};
 ghost use Rattle.spec_cluster.specs.Clusters as spec;
 ghost use Rattle.spec_cluster.specs.declared.fault.MoveFault.TheVariants as moving;
-ghost use Rattle.spec_cluster.specs.{Clusters.{IsCluster, is_there}, Rounds.{AllTurn, AreRounds, HasBegun, IsBrokenOff, IsPart, IsRound, IsTurning, carried, goes, is_live}, Visits.{hall_at}};
+ghost use Rattle.spec_cluster.specs.{Clusters.{IsCluster, is_there}, Rounds.{AllTurn, AreRounds, HasBegun, IsBrokenOff, IsPart, IsRound, IsTurning, StopsShort, carried, goes, is_live}, Visits.{hall_at}};
 ghost use Rattle.spec_hall.specs.{Dressed.{keyed}, States.{leases}, Turns.{TakesTurn, first_live}};
 
 use crate::cluster::Cluster;
@@ -17,8 +17,8 @@ use std::alloc::{AllocError, Global};
 impl Cluster {
     /// Drives the halls in rounds until no job is live: in each round each hall works for so many slices, 1 to 1,000,
     /// or until it waits, and then the first live job of each goes on to the next hall, where that has room for it.
-    /// After want of memory all events and moves stay: those of whole rounds, and of a part of the next. The cluster may
-    /// be driven again.
+    /// After want of memory all events and moves stay: those of whole rounds, and of a part of the next, in which no hall
+    /// has worked beyond its turn. The cluster may be driven again.
     pub fn drive_moving(&mut self, every: u32, scratch: &mut Scratch) -> Result<(), AllocError>
         requires low { 1 ≤ every }
         requires high { every ≤ 1000 }
@@ -71,6 +71,8 @@ impl Cluster {
         requires { at < length self.old.halls }
         ensures turn { OnOk result
             (TakesTurn self.old.workers every (hall_at self.old.halls at) (hall_at self.new.halls at)) }
+        ensures short { OnErr result
+            (StopsShort self.old.workers every (hall_at self.old.halls at) (hall_at self.new.halls at)) }
         ensures turns { HasTurnsAt self.old at self.new }
     {
         take_turn(&mut self.halls[at], every, scratch)
@@ -142,6 +144,7 @@ fn take_turn(hall: &mut Hall, every: u32, scratch: &mut Scratch) -> Result<(), A
     requires { leases hall.old.events ≡ [] }
     ensures workers { hall.new.workers ≡ hall.old.workers }
     ensures turn { OnOk result (TakesTurn hall.old.workers every hall.old.events hall.new.events) }
+    ensures short { OnErr result (StopsShort hall.old.workers every hall.old.events hall.new.events) }
     ensures turns { HasTurns hall.old.workers hall.old.events hall.new.events }
 {
     for _ in 0..every {

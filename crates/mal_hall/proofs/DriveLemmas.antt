@@ -142,16 +142,16 @@ pub turns-behind : (v w : ℕ) (a b c : List Event) → v ≡ w → GrowsByTurns
 turns-behind v w a b c same one two = turns-more w a b c one (subst (λ (x : ℕ). GrowsByTurns x b c) same two)
 
 -- what a turn leaves that nothing came of
-pub rested-turn : {E : Type 0} (w : ℕ) (past now : List Event) (e : E) → HasRested w past now → IsTurn w past (Err e) now
-rested-turn w past now e rested = record { turns = rested.turns; home = rested.home; end = tt; answered = tt; less = tt; slice = tt; waited = tt }
+pub rested-turn : {E : Type 0} (w : ℕ) (past now : List Event) (e : E) → HasRested w past now → HasCalled w past (Picks 1) (Err OutOfMemory) now → IsTurn w past (Err e) now
+rested-turn w past now e rested called = record { turns = rested.turns; home = rested.home; end = tt; answered = tt; less = tt; slice = tt; waited = tt; wanting = called }
 
 -- one that found nothing left to do
 pub stopped-turn : {E : Type 0} (w : ℕ) (past now : List Event) → HasStopped w past now → IsTurn {E = E} w past (Ok false) now
-stopped-turn w past now stopped = record { turns = stopped.rested.turns; home = stopped.rested.home; end = λ _. stopped.end; answered = λ _. stopped.answered; less = λ (e : false ≡ true). absurd (cc); slice = λ (e : false ≡ true). absurd (cc); waited = λ _. stopped.waited }
+stopped-turn w past now stopped = record { turns = stopped.rested.turns; home = stopped.rested.home; end = λ _. stopped.end; answered = λ _. stopped.answered; less = λ (e : false ≡ true). absurd (cc); slice = λ (e : false ≡ true). absurd (cc); waited = λ _. stopped.waited; wanting = tt }
 
 -- and one in which a lease was worked off
 pub worked-turn : {E : Type 0} (v w : ℕ) (past middle now : List Event) (lease : Leased) → v ≡ w → 1 ≤ w → w ≤ 64 → Legal w past → leases past ≡ [] → HasCalled w past (Picks 1) (Ok (calls.Leased (handed_of lease))) middle → HasWorkedOff v middle lease now → IsTurn {E = E} w past (Ok true) now
 worked-turn v w past middle now lease same some bound legal home called off =
     let sliced = turn-done v w past middle now lease off.done off.answer same some bound legal home called off.worker off.becomes off.given in
     let worked = sliced.worked in
-    record { turns = worked.turns; home = worked.home; end = λ (e : true ≡ false). absurd (cc); answered = λ (e : true ≡ false). absurd (cc); less = λ _. worked.less; slice = λ _. sliced.slice; waited = λ (e : true ≡ false). absurd (cc) }
+    record { turns = worked.turns; home = worked.home; end = λ (e : true ≡ false). absurd (cc); answered = λ (e : true ≡ false). absurd (cc); less = λ _. worked.less; slice = λ _. sliced.slice; waited = λ (e : true ≡ false). absurd (cc); wanting = tt }

@@ -1,6 +1,7 @@
 -- A hall that is driven, turn by turn.
-use Rattle.std.specs.Prelude.{◌≡◌, ℕ, ◌<◌, Bool, true, false, List, [], Result, IfOk}
-use Rattle.spec_hall.specs.Calls.{Finishes, HasCalled, Return}
+use Rattle.std.specs.Prelude.{◌≡◌, ℕ, ◌<◌, Bool, true, false, List, [], Result, Err, IfErr, IfOk}
+use Rattle.mal_base.specs.declared.hall_fault.PickFault.TheVariants.{OutOfMemory}
+use Rattle.spec_hall.specs.Calls.{Finishes, HasCalled, Picks, Return}
 use Rattle.spec_hall.specs.Driven.{GrowsByTurns, IsAtEnd}
 use Rattle.spec_hall.specs.Events.{Event}
 use Rattle.spec_hall.specs.Measure.{left_in}
@@ -16,8 +17,8 @@ pub record HasWorkedOff (workers : ℕ) (past : List Event) (lease : Leased) (no
   pub answer : Return
   pub given : HasCalled workers past (Finishes done) answer now
 
--- what a turn leaves, behind which nothing is out: true where a lease was worked off, and false where the worker got none
--- and nothing was left to do
+-- what a turn leaves, behind which nothing is out: true where a lease was worked off, false where the worker got none and
+-- nothing was left to do, and an error where its pick wanted for memory, behind which nothing was done
 pub record IsTurn {E : Type 0} (workers : ℕ) (past : List Event) (went : Result Bool E) (now : List Event) : Type 0 where
   pub turns : GrowsByTurns workers past now
   pub home : leases now ≡ []
@@ -26,3 +27,4 @@ pub record IsTurn {E : Type 0} (workers : ℕ) (past : List Event) (went : Resul
   pub less : IfOk went (λ b. b ≡ true → left_in now < left_in past)
   pub slice : IfOk went (λ b. b ≡ true → IsSlice workers past now)
   pub waited : IfOk went (λ b. b ≡ false → HasWaited workers past now)
+  pub wanting : IfErr went (λ e. HasCalled workers past (Picks 1) (Err OutOfMemory) now)

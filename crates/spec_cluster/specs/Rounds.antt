@@ -1,13 +1,14 @@
 -- Rounds of a cluster: each hall works for some slices, and then the first live job of each goes on to the next hall.
-use Rattle.std.specs.Prelude.{◌≡◌, ◌⊎◌, ℕ, ◌+◌, ◌%◌, ◌<◌, Bool, true, false, ◌&&◌, ◌||◌, ◌==◌, not, nat_lt, List, [], ◌∷◌, ◌++◌, length, take, map, sum_by, Option, Some, None, if◌then◌else◌}
+use Rattle.std.specs.Prelude.{◌≡◌, ◌⊎◌, ℕ, zero, suc, ◌+◌, ◌%◌, ◌<◌, Bool, true, false, ◌&&◌, ◌||◌, ◌==◌, not, nat_lt, List, [], ◌∷◌, ◌++◌, length, take, map, sum_by, Option, Some, None, Err, if◌then◌else◌}
 use Rattle.std.specs.List.{list_any}
+use Rattle.mal_base.specs.declared.hall_fault.PickFault.TheVariants.{OutOfMemory}
 use Rattle.spec_job.specs.KeyedJob.{Key}
-use Rattle.spec_hall.specs.Driven.{GrowsByTurns}
+use Rattle.spec_hall.specs.Calls.{HasCalled, Picks}
 use Rattle.spec_hall.specs.Events.{Event}
 use Rattle.spec_hall.specs.Legal.{jobs_of, tenant_count}
 use Rattle.spec_hall.specs.Measure.{left_among}
 use Rattle.spec_hall.specs.States.{lives, names_of, states}
-use Rattle.spec_hall.specs.Turns.{TakesTurn, first_live}
+use Rattle.spec_hall.specs.Turns.{IsSlice, TakesTurn, first_live}
 use Rattle.spec_cluster.specs.Calls.{went}
 use Rattle.spec_cluster.specs.Clusters.{Cluster, is_named}
 use Rattle.spec_cluster.specs.Visits.{Move, hall_at}
@@ -59,14 +60,20 @@ pub record HasBegun (before after : Cluster) : Type 0 where
   pub more : List Move
   pub moves : after.moves ≡ before.moves ++ more
 
--- the halls before a place took their turns, that at the place has begun its own, those behind it are as before, and no
--- job moved
+-- a turn that stopped short of so many slices, since memory was wanting where the worker picked again
+abbrev pub StopsShort : ℕ → ℕ → List Event → List Event → Type 0
+StopsShort workers zero past now = ⊥
+StopsShort workers (suc n) past now = HasCalled workers past (Picks 1) (Err OutOfMemory) now ⊎ ((mid : List Event) × IsSlice workers past mid × StopsShort workers n mid now)
+
+-- the halls before a place took their turns, the turn of that at the place stopped short, those behind it are as before,
+-- and no job moved
 pub record IsTurning (every at : ℕ) (before now : Cluster) : Type 0 where
+  pub within : at < length before.halls
   pub workers : now.workers ≡ before.workers
   pub size : length now.halls ≡ length before.halls
   pub moves : now.moves ≡ before.moves
   pub done : (n : ℕ) → n < at → TakesTurn before.workers every (hall_at before.halls n) (hall_at now.halls n)
-  pub begun : GrowsByTurns before.workers (hall_at before.halls at) (hall_at now.halls at)
+  pub begun : StopsShort before.workers every (hall_at before.halls at) (hall_at now.halls at)
   pub left : (n : ℕ) → at < n → hall_at now.halls n ≡ hall_at before.halls n
 
 -- all halls took their turns, and of the jobs that were chosen those of the first halls, so many, went on

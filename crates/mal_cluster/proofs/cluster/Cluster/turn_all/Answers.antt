@@ -26,7 +26,7 @@ pub returns-in_err-turn_at-clause-turning : goal.returns-in_err-turn_at-clause-t
 returns-in_err-turn_at-clause-turning c =
     let many : length c.args.self.now.halls ≡ length c.self.inside.halls.items = rw (← c.self.view_is) (histories-length c.self.inside.halls.items) in
     let low : c.loop-at.at < length c.loop-at.self.halls = omega (arith, many, c.loop-at.invariant.size, c.loop-at-test.true, c.len-at-end.ensures) in
-    on-err _ c.from_residual.result (c.loop-at.at, turning-broken c.args.every c.loop-at.at c.args.self.now c.loop-at.self c.turn_at.new.self c.loop-at.invariant low c.turn_at.ensures.turns)
+    on-err _ c.from_residual.result (c.loop-at.at, turning-broken c.args.every c.loop-at.at c.args.self.now c.loop-at.self c.turn_at.new.self c.loop-at.invariant low c.turn_at.ensures.turns c.in_err-turn_at.ensures.short)
 
 pub loop-at-preserved : goal.loop-at-preserved
 loop-at-preserved c =
