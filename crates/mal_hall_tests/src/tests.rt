@@ -1,8 +1,9 @@
-//! Halls and services whose replies and histories are known.
+//! Halls, clusters and services whose replies and histories are known.
 
 mod applying;
 mod balance;
 mod calling;
+mod cluster;
 mod hall;
 mod inquiry;
 mod long;

@@ -6,14 +6,33 @@ use mal_hall::{Hall, Pick};
 use mal_learn::Scratch;
 use std::alloc::Global;
 
-/// Opens the job p of tenant a with a revision of two variables.
-fn fill(alloc: Global, hall: &mut Hall) -> Option<()> {
+/// Opens the job p of tenant a.
+fn open(hall: &mut Hall) -> Option<()> {
     let tenant = name(b"a")?;
     let job = name(b"p")?;
     let ask = ask(1, 4, 1)?;
-    hall.open_job(tenant, job, ask).ok()?;
+    hall.open_job(tenant, job, ask).ok()
+}
+
+/// Posts a revision of two variables of the job p.
+fn post(alloc: Global, hall: &mut Hall) -> Option<()> {
+    let tenant = name(b"a")?;
+    let job = name(b"p")?;
     let revision = revision(alloc, Posted::Clause(&[1, 2], &[]))?;
     hall.revise_job(&tenant, &job, revision).ok()
+}
+
+/// Closes the job p.
+fn close(hall: &mut Hall) -> Option<()> {
+    let tenant = name(b"a")?;
+    let job = name(b"p")?;
+    hall.close_job(&tenant, &job).ok()
+}
+
+/// Opens the job p with a revision.
+fn fill(alloc: Global, hall: &mut Hall) -> Option<()> {
+    open(hall)?;
+    post(alloc, hall)
 }
 
 /// Why a job of tenant a is not packed, None where it is.
@@ -21,6 +40,34 @@ fn fault(alloc: Global, hall: &Hall, job: &[u8]) -> Option<Option<PackFault>> {
     let tenant = name(b"a")?;
     let job = name(job)?;
     Some(hall.pack_job(&tenant, &job).err())
+}
+
+/// Whether the job p is packed as these bytes.
+fn are_bytes(alloc: Global, hall: &Hall, known: &[u8]) -> Option<bool> {
+    let tenant = name(b"a")?;
+    let job = name(b"p")?;
+    let parcel = hall.pack_job(&tenant, &job).ok()?;
+    let is_known = parcel.bytes() == known;
+    drop(parcel);
+    Some(is_known)
+}
+
+/// Whether the job p is packed as the first bytes where it was just opened, and as the second where it was closed after a
+/// revision.
+fn is_packed_as(alloc: Global, hall: &mut Hall, opened: &[u8], closed: &[u8]) -> Option<bool> {
+    open(hall)?;
+    let first = are_bytes(alloc, hall, opened)?;
+    post(alloc, hall)?;
+    close(hall)?;
+    Some(first && are_bytes(alloc, hall, closed)?)
+}
+
+/// The same in a hall of its own.
+fn has_packed_as(alloc: Global, opened: &[u8], closed: &[u8]) -> Option<bool> {
+    let mut hall = Hall::new(alloc, 1).ok()?;
+    let said = is_packed_as(alloc, &mut hall, opened, closed);
+    drop(hall);
+    said
 }
 
 /// Why the job p is not packed while its node is out. The start is lost then.
@@ -141,6 +188,15 @@ fn has_gone_on(alloc: Global) -> Option<bool> {
 #[test]
 fn a_job_of_a_lost_node_goes_on_in_another_hall(rt: HostRuntime) {
     assert!(rt; has_gone_on(rt.alloc()) == Some(true));
+}
+
+#[test]
+fn a_job_is_packed_as_its_bytes(rt: HostRuntime) {
+    let opened =
+        b"MALPACK1\0\0\0\0\0\0\0\x10t a\nj p 1 1 4\ne\n\0\0\0\0\0\0\0\x0co a p 1 1 4\n\0\0\0\0\0\0\0\0\0\0\0\0\0\0\0\0\0\0\0\0\0\0\0\0";
+    let closed =
+        b"MALPACK1\0\0\0\0\0\0\0\x24t a\nj p 1 1 4\np cnf 2 1\n1 2 0\na 0\ne\n\0\0\0\0\0\0\0\x1ao a p 1 1 4\nr a p 1\nc a p\n\0\0\0\0\0\0\0\0\0\0\0\0\0\0\0\0\0\0\0\0\0\0\0\0";
+    assert!(rt; has_packed_as(rt.alloc(), opened, closed) == Some(true));
 }
 
 #[test]

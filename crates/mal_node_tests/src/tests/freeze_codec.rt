@@ -202,6 +202,24 @@ fn other_bytes_are_refused(rt: HostRuntime) {
     assert!(rt; fresh_faults_are_told(rt.alloc()) == Some(true));
 }
 
+/// Whether a fault has this text, if memory is there.
+fn has_text(alloc: Global, fault: ThawFault, known: &[u8]) -> bool {
+    match format!(in alloc; "{fault}") {
+        Ok(text) => text.as_bytes() == known,
+        Err(_) => false,
+    }
+}
+
+#[test]
+fn each_fault_has_its_text(rt: HostRuntime) {
+    assert!(rt; has_text(rt.alloc(), ThawFault::BadMagic, b"bad magic"));
+    assert!(rt; has_text(rt.alloc(), ThawFault::Truncated, b"truncated"));
+    let field = ThawFault::BadField { place: 12 };
+    assert!(rt; has_text(rt.alloc(), field, b"bad field at 12"));
+    assert!(rt; has_text(rt.alloc(), ThawFault::NotCanonical, b"not canonical"));
+    assert!(rt; has_text(rt.alloc(), ThawFault::OutOfMemory, b"out of memory"));
+}
+
 /// The fault of the bytes of the fresh node with one behind them.
 fn fault_of_longer(alloc: Global) -> Option<ThawFault> {
     let mut longer = fresh_bytes(alloc)?;
