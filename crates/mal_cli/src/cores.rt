@@ -43,13 +43,15 @@ fn search(alloc: Global, slices: u32, instance: &Instance) -> Result<Texts, Allo
         (λ t. IsMinimized slices (seen_instance instance.now) (logged t.log.items) t.out.items) }
 {
     let mut scratch = Scratch::new(alloc);
-    let found = minimal(
+    let searched = minimal(
         alloc,
         &instance.formula,
         instance.assumptions.as_slice(),
         slices,
         &mut scratch,
-    )?;
+    );
+    drop(scratch);
+    let found = searched?;
     Ok(Texts {
         log: Vec::new(alloc),
         out: minimal_text(alloc, &found)?,

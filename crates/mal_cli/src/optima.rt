@@ -42,13 +42,15 @@ fn search(alloc: Global, slices: u32, instance: &Instance) -> Result<Texts, Allo
         (λ t. IsOptimized slices (seen_instance instance.now) (logged t.log.items) t.out.items) }
 {
     let mut scratch = Scratch::new(alloc);
-    let optimum = solve(
+    let solved = solve(
         alloc,
         &instance.formula,
         instance.softs.as_slice(),
         slices,
         &mut scratch,
-    )?;
+    );
+    drop(scratch);
+    let optimum = solved?;
     Ok(Texts {
         log: Vec::new(alloc),
         out: optimum_text(alloc, &optimum)?,

@@ -60,8 +60,13 @@ fn run_script_alone(alloc: Global, script: &Script) -> Result<Texts, AllocError>
     ensures { (stops : Stops) → IfOk result (λ t. IsStoppedRunOf stops 1 script.now (logged t.log.items) t.out.items) }
 {
     let hall = run_alone(alloc, script, 1)?;
-    let out = replies(alloc, &hall, script)?;
-    texts_of(alloc, hall, out)
+    match replies(alloc, &hall, script) {
+        Ok(out) => texts_of(alloc, hall, out),
+        Err(error) => {
+            drop(hall);
+            Err(error)
+        }
+    }
 }
 
 /// Runs a script with 2 to 64 workers, and makes the texts of its history and, with as many threads, of its replies.
@@ -78,8 +83,13 @@ fn run_script_served<R: Threads + Wait + Sync, G: Gate>(
         (λ t. IsStoppedRunOf (stops_of (G.stops gate.now)) workers script.now (logged t.log.items) t.out.items) }
 {
     let hall = run_served(rt, alloc, script, workers, gate)?;
-    let out = replies_by(rt, alloc, &hall, script, workers)?;
-    texts_of(alloc, hall, out)
+    match replies_by(rt, alloc, &hall, script, workers) {
+        Ok(out) => texts_of(alloc, hall, out),
+        Err(error) => {
+            drop(hall);
+            Err(error)
+        }
+    }
 }
 
 /// The texts of the history and of the replies of a hall that has run a script: the replies stand in memory before
