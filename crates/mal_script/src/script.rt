@@ -1,6 +1,6 @@
 //! A script and its jobs.
 
-ghost use Rattle.std.specs.Prelude.{◌≡◌, ◌+◌, ◌≤◌, ◌++◌, ◌∷◌, [], length, slice_get, IfOk, OnOk, OnErr};
+ghost use Rattle.std.specs.Prelude.{◌≡◌, ◌+◌, ◌≤◌, ◌++◌, ◌∷◌, [], length, slice_get, OnOk, OnErr};
 ghost use Rattle.std.specs.{List.{count_by}, Option.{option_copied}};
 ghost use Rattle.mal_script.specs.{Counting.{is_revision, revision_of}, ReadResult.{of_jobs}};
 ghost use Rattle.spec_script.specs.{Formed.{IsScript}, Limits.{served}, Script.{revisions, revisions_at}};
@@ -38,30 +38,6 @@ impl ScriptJob {
             name,
             ask,
             steps,
-        }
-    }
-
-    /// The job with one step more, behind the others.
-    pub fn with_step(self, step: Step) -> Result<ScriptJob, AllocError>
-        ensures job { IfOk result
-            (λ j. j
-            ≡ record {
-              tenant = self.tenant;
-              name = self.name;
-              ask = self.ask;
-              steps = self.steps ++ step
-                  ∷ [];
-            }) }
-        ensures count { IfOk result
-            (λ j. length (revisions j) ≡ length (revisions self) + length (revisions_at step)) }
-    {
-        let mut job = self;
-        match job.push(step) {
-            Ok(()) => Ok(job),
-            Err(error) => {
-                drop(job);
-                Err(error)
-            }
         }
     }
 

@@ -139,10 +139,6 @@ outside limits first others s =
     if bytes_eq first (codes "j") then after_job limits others s else
     Err BadLine
 
--- the job without a block
-abbrev pub without_block : OpenJob → OpenJob
-without_block o = record o { block = None }
-
 -- the job with a block that has begun
 abbrev pub with_block : OpenJob → Block → OpenJob
 with_block o b = record o { block = Some b }
