@@ -1,83 +1,25 @@
 -- The sections of the parcel of lawful own events.
-use Rattle.std.proofs.Common.{◌≡◌, ℕ, zero, suc, ◌+◌, ◌*◌, ◌<◌, ◌≤◌, ◌^◌, Bool, true, false, cond, List, [], ◌∷◌, ◌++◌, length, map, filter, take, Option, Some, None, refl, sym, ◌∙◌, ap, subst, arith, append_assoc, append-nil, length-append}
+use Rattle.std.proofs.Common.{◌≡◌, ℕ, zero, suc, ◌+◌, ◌<◌, ◌≤◌, ◌^◌, Bool, true, false, cond, List, [], ◌∷◌, ◌++◌, length, map, filter, take, Option, Some, None, refl, sym, ◌∙◌, ap, subst, arith, append_assoc, length-append}
 use Rattle.std.specs.Int.{w64}
-use Rattle.std.specs.Prelude.{All, codes, flat_map, slice_set}
+use Rattle.std.specs.Prelude.{All, codes, flat_map, option_and_then, option_map}
 use Rattle.std.specs.List.{AllByRecursion}
 use Rattle.std.proofs.lemmas.List.{length-map}
+use Rattle.std.proofs.lemmas.Option.{none-some, same_Some}
 use Rattle.std.proofs.lemmas.List.Elements.{recursion_from_All}
-use Rattle.mal_base.specs.Asks.{Terms}
 use Rattle.mal_base.specs.declared.answer.Answer.{Answer}
 use Rattle.mal_freeze.specs.Spelling.{spelled}
 use Rattle.spec_node.specs.Load.{counted}
-use Rattle.spec_job.specs.Counts.{runs_in, runs_of}
-use Rattle.spec_job.specs.Journal.{JournalEntry, Run}
 use Rattle.spec_job.specs.KeyedJob.{Key}
 use Rattle.spec_job.specs.Lawful.{IsLawful}
-use Rattle.spec_job.specs.Runnable.{IsRunnable}
-use Rattle.spec_job.specs.SoloMachine.{Own, Opened, Revised, Reasked, Closed, Volume, Started, Finished, Exchanged, Lease, NodeSlot, Slice, SoloMachine, solo, solo_step, place_at, first_empty, remembered}
+use Rattle.spec_job.specs.SoloMachine.{Own, Opened, Revised, Reasked, Closed, Volume, Started, Finished, Exchanged, Slice, SoloMachine, solo}
 use Rattle.spec_job.specs.Viewed.{JobView, unstarted}
-use Rattle.spec_job.proofs.CountLemmas.{runs_in-append, runs-set, runs-same, runs-marked}
-use Rattle.spec_job.proofs.DerivingLemmas.{IsRunning}
-use Rattle.spec_job.proofs.FinishLemmas.{slice_of, with_entries, ran_home, finished-leaves, settled-leaves}
-use Rattle.spec_job.proofs.KeptLemmas.{MachineInvariant, runnable-kept}
-use Rattle.spec_job.proofs.LawfulLemmas.{lawful-runnable}
-use Rattle.spec_job.proofs.PlacesLemmas.{out-within}
-use Rattle.spec_job.proofs.PushLemmas.{events-keep, runnable-push}
-use Rattle.spec_job.proofs.SolvingLemmas.{lease_of}
 use Rattle.spec_script.specs.Script.{spelling}
-use Rattle.spec_parcel.specs.Packed.{Placed, answer_bytes, has_run, listed, node_bytes, own_text, parcel_bytes, placed, placed_bytes, ran_indices, script_of, sized, slice_bytes}
+use Rattle.spec_parcel.specs.Packed.{Placed, answer_bytes, has_run, listed, own_text, parcel_bytes, placed, placed_bytes, ran_indices, script_of, sized, slice_bytes}
 use Rattle.spec_parcel.proofs.SectionLemmas.{listed-map}
 use Rattle.mal_parcel.specs.Parcelled.{IsReadBack}
-use Rattle.mal_parcel.specs.Replaying.{IsReplayed, IsToWake, answers_left, found_machine, machine_of, slices_left}
-use Rattle.mal_parcel.proofs.TakenLemmas.{never-both}
-use Rattle.mal_parcel.proofs.ReadableLemmas.{runs-low}
-
--- a machine has no more slices than its journals have runs
-abbrev AreRuns : SoloMachine → Type 0
-AreRuns s = length s.slices ≤ runs_of s.places
-
-ran-runs : (s : SoloMachine) (i : ℕ) (l : Lease) → (place_at s i).out ≡ Some l → MachineInvariant s → AreRuns s → AreRuns (ran_home s i (place_at s i) l)
-ran-runs s i l out kept h =
-    let p : NodeSlot = place_at s i in
-    let within : i < length s.places = out-within s.places i l out in
-    let few : length s.places ≤ 64 = kept.solving.count in
-    let run : IsRunning s.ask.profile s.revisions s.log i p.entries l = (kept.derives.tracked i (omega arith)).running l out in
-    let last : runs_in (run.before ++ Run ∷ []) ≡ runs_in run.before + 1 = runs_in-append run.before (Run ∷ []) in
-    let more : runs_in (p.entries ++ l.adds) ≡ runs_in p.entries + (runs_in run.before + 1) = ap (λ (es : List JournalEntry). runs_in (p.entries ++ es)) run.adds ∙ (runs_in-append p.entries (run.before ++ Run ∷ []) ∙ ap (λ (n : ℕ). runs_in p.entries + n) last) in
-    let all : runs_of (slice_set s.places i (with_entries p l)) ≡ runs_of s.places + (runs_in run.before + 1) = runs-set s.places i (runs_in run.before + 1) (with_entries p l) within more in
-    let long : length (s.slices ++ remembered s l (slice_of s i p l) ∷ []) ≡ length s.slices + 1 = length-append s.slices (remembered s l (slice_of s i p l) ∷ []) in
-    omega (arith, all, long, h)
-
-step-runs : (s : SoloMachine) (o : Own) → MachineInvariant s → AreRuns s → AreRuns (solo_step s o)
-step-runs s (Opened ask) kept h = h
-step-runs s (Revised r) kept h = settled-leaves AreRuns (λ t answers k. k) (λ t spent starved k. k) (first_empty s.log) (record s { revisions = s.revisions ++ r ∷ [] }) h
-step-runs s (Reasked w) kept h = h
-step-runs s Closed kept h = h
-step-runs s (Volume v) kept h = h
-step-runs s (Started i) kept h = subst (λ (n : ℕ). length s.slices ≤ n) (sym (runs-same s.places i (record (place_at s i) { out = Some (lease_of s i); starts = (place_at s i).starts + 1 }) refl)) h
-step-runs s (Finished i o) kept h =
-    finished-leaves AreRuns (λ t answers k. k) (λ t spent starved k. k) s i (place_at s i) (place_at s i).out o h
-    (λ l e. ran-runs s i l e kept h)
-    (subst (λ (n : ℕ). length s.slices ≤ n) (sym (runs-same s.places i (record (place_at s i) { out = None }) refl)) h)
-step-runs s Exchanged kept h = subst (λ (n : ℕ). length s.slices ≤ n) (sym (runs-marked s.volume (length s.log) 0 s.places)) h
-
-runnable-runs : (events : List Own) → IsRunnable [] events → AreRuns (solo events)
-runnable-runs events may = events-keep AreRuns (λ past os. IsRunnable [] past × IsRunnable past os) (λ past o os q h. (step-runs (solo past) o (runnable-kept past q.0) h, (runnable-push past o q.0 q.1.0, q.1.1))) [] events (tt, may) (omega arith)
-
--- so 8 bytes hold how many there are
-slices-short : (own : List Own) → IsLawful own → length (solo own).slices < 2 ^ 64
-slices-short [] lawful = absurd lawful
-slices-short (Opened ask ∷ own) lawful =
-    let runs : length (solo (Opened ask ∷ own)).slices ≤ runs_of (solo (Opened ask ∷ own)).places = runnable-runs (Opened ask ∷ own) (lawful-runnable (Opened ask ∷ own) lawful) in
-    let low : runs_of (solo (Opened ask ∷ own)).places ≤ 257 * 4096 = runs-low ask own lawful in
-    omega (arith, runs, low)
-slices-short (Revised r ∷ own) lawful = absurd lawful
-slices-short (Reasked w ∷ own) lawful = absurd lawful
-slices-short (Closed ∷ own) lawful = absurd lawful
-slices-short (Volume v ∷ own) lawful = absurd lawful
-slices-short (Started i ∷ own) lawful = absurd lawful
-slices-short (Finished i o ∷ own) lawful = absurd lawful
-slices-short (Exchanged ∷ own) lawful = absurd lawful
+use Rattle.mal_parcel.specs.Replaying.{IsReplayed, IsToWake, answers_left, slices_left}
+use Rattle.mal_parcel.specs.Taking.{behind_each, behind_node, behind_number, behind_slice, machine_at, machine_in, slices_at}
+use Rattle.mal_parcel.proofs.TakeLemmas.{behind_node-again, behind_number-again, behind_slice-again, each-again, number-again, texts-again}
 
 -- of the indices of all places few are taken, and low ones
 few-among : (p : ℕ → Bool) (first n : ℕ) → length (filter p (counted first n)) ≤ n
@@ -104,16 +46,76 @@ ran-low : (s : SoloMachine) → AllByRecursion (λ i. i ≤ 63) (ran_indices s)
 unfolding ran_indices
 ran-low s = low-among (has_run s) 0 64 (omega arith)
 
--- the sections of a machine, each behind its count
-machine-parts : (f : ℕ → Placed) (is : List ℕ) (cs : List Slice) (given : List Answer) → listed (λ i. placed_bytes (f i)) is ++ (listed slice_bytes cs ++ listed answer_bytes given) ≡ machine_of (map f is) cs (spelled w64 (length given)) (flat_map answer_bytes given)
+-- the sections from the nodes on: nodes, slices and answers, each behind its count
+abbrev machine_of : List Placed → List Slice → ℕ → List ℕ → List ℕ
+machine_of ps cs n answers = spelled w64 (length ps) ++ (flat_map placed_bytes ps ++ (spelled w64 (length cs) ++ (flat_map slice_bytes cs ++ (spelled w64 n ++ answers))))
+
+machine-parts : (f : ℕ → Placed) (is : List ℕ) (cs : List Slice) (given : List Answer) → listed (λ i. placed_bytes (f i)) is ++ (listed slice_bytes cs ++ listed answer_bytes given) ≡ machine_of (map f is) cs (length given) (flat_map answer_bytes given)
 machine-parts f is cs given =
     ap (λ (bs : List ℕ). bs ++ (listed slice_bytes cs ++ listed answer_bytes given)) (listed-map f placed_bytes is)
     ∙ (append_assoc (spelled w64 (length (map f is))) (flat_map placed_bytes (map f is)) (listed slice_bytes cs ++ listed answer_bytes given)
     ∙ ap (λ (bs : List ℕ). spelled w64 (length (map f is)) ++ (flat_map placed_bytes (map f is) ++ bs)) (append_assoc (spelled w64 (length cs)) (flat_map slice_bytes cs) (listed answer_bytes given)))
 
-parcel-parts : (k : Key) (own : List Own) → parcel_bytes k own ≡ codes "MALPACK1" ++ (sized (spelling (script_of k own)) ++ (sized (own_text k own) ++ machine_of (map (placed (solo own)) (ran_indices (solo own))) (solo own).slices (spelled w64 (length (solo own).answers)) (flat_map answer_bytes (solo own).answers)))
+-- the bytes of a parcel from the script on
+abbrev parts_of : Key → List Own → List ℕ
+parts_of k own = codes "MALPACK1" ++ (sized (spelling (script_of k own)) ++ (sized (own_text k own) ++ machine_of (map (placed (solo own)) (ran_indices (solo own))) (solo own).slices (length (solo own).answers) (flat_map answer_bytes (solo own).answers)))
+
+parcel-parts : (k : Key) (own : List Own) → parcel_bytes k own ≡ parts_of k own
 unfolding parcel_bytes
 parcel-parts k own = ap (λ (bs : List ℕ). codes "MALPACK1" ++ (sized (spelling (script_of k own)) ++ (sized (own_text k own) ++ bs))) (machine-parts (placed (solo own)) (ran_indices (solo own)) (solo own).slices (solo own).answers)
+
+-- there are no more of a kind than bytes, where each has some
+as-many : {X : Type 0} (f : X → List ℕ) → ((x : X) → 1 ≤ length (f x)) → (xs : List X) (more : List ℕ) → length xs ≤ length (flat_map f xs ++ more)
+as-many f some [] more = omega arith
+as-many f some (x ∷ xs) more = omega (arith, as-many f some xs more, some x, length-append (f x ++ flat_map f xs) more, length-append (f x) (flat_map f xs), length-append (flat_map f xs) more)
+
+-- the sections of a machine are found
+slices-again : (cs : List Slice) (n : ℕ) (last : List ℕ) → length (spelled w64 (length cs) ++ (flat_map slice_bytes cs ++ (spelled w64 n ++ last))) < 2 ^ 63 → slices_at (spelled w64 (length cs) ++ (flat_map slice_bytes cs ++ (spelled w64 n ++ last))) ≡ Some (flat_map slice_bytes cs ++ (spelled w64 n ++ last), last)
+slices-again cs n last short =
+    let rest : List ℕ = flat_map slice_bytes cs ++ (spelled w64 n ++ last) in
+    let fits : length rest < 2 ^ 63 = omega (arith, short, length-append (spelled w64 (length cs)) rest) in
+    let few : length cs ≤ length rest = as-many slice_bytes (λ c. omega arith) cs (spelled w64 n ++ last) in
+    ap (option_and_then (λ (m : ℕ × List ℕ). option_map (λ (answers : List ℕ). (m.1, answers)) (option_and_then behind_number (behind_each behind_slice m.0 m.1)))) (number-again (length cs) rest (omega (arith, few, fits)))
+    ∙ (ap (λ (o : Option (List ℕ)). option_map (λ (answers : List ℕ). (rest, answers)) (option_and_then behind_number o)) (each-again slice_bytes behind_slice behind_slice-again cs (spelled w64 n ++ last) fits)
+    ∙ ap (option_map (λ (answers : List ℕ). (rest, answers))) (behind_number-again n last))
+
+machine-again : (ps : List Placed) (cs : List Slice) (n : ℕ) (last : List ℕ) → length ps < 2 ^ 64 → length (machine_of ps cs n last) < 2 ^ 63 → machine_at (machine_of ps cs n last) ≡ Some (length ps, (flat_map placed_bytes ps ++ (spelled w64 (length cs) ++ (flat_map slice_bytes cs ++ (spelled w64 n ++ last))), (flat_map slice_bytes cs ++ (spelled w64 n ++ last), last)))
+machine-again ps cs n last few short =
+    let run : List ℕ = spelled w64 (length cs) ++ (flat_map slice_bytes cs ++ (spelled w64 n ++ last)) in
+    let nodes : List ℕ = flat_map placed_bytes ps ++ run in
+    let fits : length nodes < 2 ^ 63 = omega (arith, short, length-append (spelled w64 (length ps)) nodes) in
+    ap (option_and_then (λ (m : ℕ × List ℕ). option_map (λ (t : List ℕ × List ℕ). (m.0, (m.1, t))) (option_and_then slices_at (behind_each behind_node m.0 m.1)))) (number-again (length ps) nodes few)
+    ∙ (ap (λ (o : Option (List ℕ)). option_map (λ (t : List ℕ × List ℕ). (length ps, (nodes, t))) (option_and_then slices_at o)) (each-again placed_bytes behind_node behind_node-again ps run fits)
+    ∙ ap (option_map (λ (t : List ℕ × List ℕ). (length ps, (nodes, t)))) (slices-again cs n last (omega (arith, fits, length-append (flat_map placed_bytes ps) run))))
+
+-- four parts that are found are the four
+abbrev Four : Type 0
+Four = ℕ × (List ℕ × (List ℕ × List ℕ))
+
+same-four : (a b : Four) → ◌≡◌ {A = Option Four} (Some a) (Some b) → (a.0 ≡ b.0) × ((a.1.0 ≡ b.1.0) × ((a.1.1.0 ≡ b.1.1.0) × (a.1.1.1 ≡ b.1.1.1)))
+same-four a b e =
+    let same : ◌≡◌ {A = Four} a b = same_Some {A = Four} a b e in
+    (ap (λ (p : Four). p.0) same, (ap (λ (p : Four). p.1.0) same, (ap (λ (p : Four). p.1.1.0) same, ap (λ (p : Four). p.1.1.1) same)))
+
+-- they are found in a parcel
+abbrev found_in : Key → List Own → Four
+found_in k own =
+    let behind : List ℕ = spelled w64 (length (solo own).slices) ++ (flat_map slice_bytes (solo own).slices ++ listed answer_bytes (solo own).answers) in
+    (length (map (placed (solo own)) (ran_indices (solo own))), (flat_map placed_bytes (map (placed (solo own)) (ran_indices (solo own))) ++ behind, (flat_map slice_bytes (solo own).slices ++ listed answer_bytes (solo own).answers, flat_map answer_bytes (solo own).answers)))
+
+parcel-again : (k : Key) (own : List Own) (bytes : List ℕ) → length bytes < 2 ^ 63 → bytes ≡ parcel_bytes k own → machine_in bytes ≡ Some (found_in k own)
+parcel-again k own bytes short is =
+    let ps : List Placed = map (placed (solo own)) (ran_indices (solo own)) in
+    let machine : List ℕ = machine_of ps (solo own).slices (length (solo own).answers) (flat_map answer_bytes (solo own).answers) in
+    let script : List ℕ = spelling (script_of k own) in
+    let events : List ℕ = own_text k own in
+    let parts : bytes ≡ parts_of k own = is ∙ parcel-parts k own in
+    let whole : length (parts_of k own) < 2 ^ 63 = omega (arith, short, ap (λ (bs : List ℕ). length bs) parts) in
+    let fits : length machine < 2 ^ 63 = omega (arith, whole, length-append (codes "MALPACK1") (sized script ++ (sized events ++ machine)), length-append (sized script) (sized events ++ machine), length-append (sized events) machine) in
+    let few : length ps < 2 ^ 64 = omega (arith, length-map (ran_indices (solo own)) (placed (solo own)), ran-few (solo own)) in
+    ap machine_in parts
+    ∙ (ap (option_and_then machine_at) (texts-again script events machine whole)
+    ∙ machine-again ps (solo own).slices (length (solo own).answers) (flat_map answer_bytes (solo own).answers) few fits)
 
 nodes-flat : (f : ℕ → Placed) (is : List ℕ) → flat_map placed_bytes (map f is) ≡ flat_map (λ i. placed_bytes (f i)) is
 nodes-flat f [] = refl
@@ -137,54 +139,28 @@ none-yet (Started i ∷ own) lawful = absurd lawful
 none-yet (Finished i o ∷ own) lawful = absurd lawful
 none-yet (Exchanged ∷ own) lawful = absurd lawful
 
--- four parts that are found are the four
-abbrev Four : Type 0
-Four = ℕ × (List ℕ × (List ℕ × List ℕ))
+-- what is found in a parcel is what is to wake, to follow and to give
+pub cut-whole : (k : Key) (own : List Own) → IsLawful own → All (IsReadBack (solo own)) (ran_indices (solo own)) → (count : ℕ) (nodes slices answers bytes : List ℕ) → length bytes < 2 ^ 63 → bytes ≡ parcel_bytes k own → Some (count, (nodes, (slices, answers))) ≡ machine_in bytes → IsCut own count nodes slices answers
+cut-whole k own lawful again count nodes slices answers bytes short is found =
+    let parts = same-four (count, (nodes, (slices, answers))) (found_in k own) (found ∙ parcel-again k own bytes short is) in
+    let behind : List ℕ = spelled w64 (length (solo own).slices) ++ (flat_map slice_bytes (solo own).slices ++ listed answer_bytes (solo own).answers) in
+    let none = none-yet own lawful in
+    record {
+      to_wake = record {
+        indices = ran_indices (solo own);
+        more = behind;
+        counted = sym (parts.0 ∙ length-map (ran_indices (solo own)) (placed (solo own)));
+        low = ran-low (solo own);
+        again = recursion_from_All (IsReadBack (solo own)) (ran_indices (solo own)) again;
+        front = parts.1.0 ∙ ap (λ (bs : List ℕ). bs ++ behind) (nodes-flat (placed (solo own)) (ran_indices (solo own)));
+      };
+      slices_cut = rw none.0 parts.1.1.0;
+      answers_cut = rw none.1 parts.1.1.1;
+    }
 
-four : (a k : ℕ) (b l c m d n : List ℕ) → ◌≡◌ {A = Option Four} (Some (a, (b, (c, d)))) (Some (k, (l, (m, n)))) → (a ≡ k) × ((b ≡ l) × ((c ≡ m) × (d ≡ n)))
-four a k b l c m d n e =
-    let same : ◌≡◌ {A = Four} (a, (b, (c, d))) (k, (l, (m, n))) = cc in
-    (ap (λ (p : Four). p.0) same, (ap (λ (p : Four). p.1.0) same, (ap (λ (p : Four). p.1.1.0) same, ap (λ (p : Four). p.1.1.1) same)))
-
-module _ (k : Key) (own : List Own) (lawful : IsLawful own) (again : All (IsReadBack (solo own)) (ran_indices (solo own))) (count : ℕ) (nodes slices answers : List ℕ) where
-  s : SoloMachine
-  s = solo own
-
-  of-found : Some (count, (nodes, (slices, answers))) ≡ found_machine (map (placed (solo own)) (ran_indices (solo own))) (solo own).slices (spelled w64 (length (solo own).answers)) (flat_map answer_bytes (solo own).answers) → IsCut own count nodes slices answers
-  of-found e =
-      let behind : List ℕ = spelled w64 (length (solo own).slices) ++ (flat_map slice_bytes (solo own).slices ++ listed answer_bytes (solo own).answers) in
-      let parts = four count (length (map (placed (solo own)) (ran_indices (solo own)))) nodes (flat_map placed_bytes (map (placed (solo own)) (ran_indices (solo own))) ++ behind) slices (flat_map slice_bytes (solo own).slices ++ listed answer_bytes (solo own).answers) answers (flat_map answer_bytes (solo own).answers) e in
-      let none = none-yet own lawful in
-      record {
-        to_wake = record {
-          indices = ran_indices (solo own);
-          more = behind;
-          counted = sym (parts.0 ∙ length-map (ran_indices (solo own)) (placed (solo own)));
-          low = ran-low (solo own);
-          again = recursion_from_All (IsReadBack (solo own)) (ran_indices (solo own)) again;
-          front = parts.1.0 ∙ ap (λ (bs : List ℕ). bs ++ behind) (nodes-flat (placed (solo own)) (ran_indices (solo own)));
-        };
-        slices_cut = rw none.0 parts.1.1.0;
-        answers_cut = rw none.1 parts.1.1.1;
-      }
-
-  pub cut-whole : (bytes : List ℕ) → bytes ≡ parcel_bytes k own
-      → ((script events : List ℕ) (ps : List Placed) (cs : List Slice) (n : ℕ) (last : List ℕ) → length ps < 2 ^ 64 → length cs < 2 ^ 64 → bytes ≡ codes "MALPACK1" ++ (sized script ++ (sized events ++ machine_of ps cs (spelled w64 n) last)) → Some (count, (nodes, (slices, answers))) ≡ found_machine ps cs (spelled w64 n) last)
-      → IsCut own count nodes slices answers
-  cut-whole bytes is found =
-      let many : length (map (placed (solo own)) (ran_indices (solo own))) ≡ length (ran_indices (solo own)) = length-map (ran_indices (solo own)) (placed (solo own)) in
-      let few : length (ran_indices (solo own)) ≤ 64 = ran-few (solo own) in
-      of-found (found (spelling (script_of k own)) (own_text k own) (map (placed (solo own)) (ran_indices (solo own))) (solo own).slices (length (solo own).answers) (flat_map answer_bytes (solo own).answers) (omega (arith, many, few)) (slices-short own lawful) (is ∙ parcel-parts k own))
-
-  -- and they are found
-  pub always-cut : (bytes : List ℕ) → bytes ≡ parcel_bytes k own
-      → ((script events : List ℕ) (ps : List Placed) (cs : List Slice) (n : ℕ) (last : List ℕ) → length ps < 2 ^ 64 → length cs < 2 ^ 64 → bytes ≡ codes "MALPACK1" ++ (sized script ++ (sized events ++ machine_of ps cs (spelled w64 n) last)) → None ≡ found_machine ps cs (spelled w64 n) last)
-      → ⊥
-  always-cut bytes is found =
-      let many : length (map (placed (solo own)) (ran_indices (solo own))) ≡ length (ran_indices (solo own)) = length-map (ran_indices (solo own)) (placed (solo own)) in
-      let few : length (ran_indices (solo own)) ≤ 64 = ran-few (solo own) in
-      never-both (found_machine (map (placed (solo own)) (ran_indices (solo own))) (solo own).slices (spelled w64 (length (solo own).answers)) (flat_map answer_bytes (solo own).answers)) _ refl
-      (sym (found (spelling (script_of k own)) (own_text k own) (map (placed (solo own)) (ran_indices (solo own))) (solo own).slices (length (solo own).answers) (flat_map answer_bytes (solo own).answers) (omega (arith, many, few)) (slices-short own lawful) (is ∙ parcel-parts k own)))
+-- and something is found
+pub always-cut : (k : Key) (own : List Own) (bytes : List ℕ) → length bytes < 2 ^ 63 → bytes ≡ parcel_bytes k own → None ≡ machine_in bytes → ⊥
+always-cut k own bytes short is none = none-some (found_in k own) (none ∙ parcel-again k own bytes short is)
 
 -- a job that was opened stands behind its first event
 pub opened-replayed : (number : ℕ) (key : Key) (own : List Own) (made : JobView) (count : ℕ) (nodes slices answers : List ℕ) → made ≡ unstarted number (record { key = key; state = solo (take 1 own) }) → IsCut own count nodes slices answers → IsReplayed made.number made.titled.key own (take 1 own) made slices answers

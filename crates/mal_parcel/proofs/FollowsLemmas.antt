@@ -1,27 +1,28 @@
 -- What comes next of the slices and of the answers where a start that is out ran a slice.
-use Rattle.std.proofs.Common.{◌≡◌, ℕ, zero, suc, ◌+◌, ◌<◌, ◌≤◌, ◌^◌, Bool, true, false, cond, not, ◌&&◌, List, [], ◌∷◌, ◌++◌, length, drop, Option, Some, None, refl, sym, ◌∙◌, ap, subst, arith, append_assoc, append-nil}
-use Rattle.std.specs.Prelude.{flat_map, is_some, slice_get}
+use Rattle.std.proofs.Common.{◌≡◌, ℕ, zero, suc, ◌<◌, ◌≤◌, ◌^◌, Bool, true, false, cond, not, ◌&&◌, List, [], ◌∷◌, ◌++◌, length, drop, Option, Some, None, refl, sym, ◌∙◌, ap, arith, append_assoc, append-nil}
+use Rattle.std.specs.Prelude.{flat_map, is_some, option_and_then, option_map, slice_get}
 use Rattle.std.specs.List.{AllByRecursion}
-use Rattle.std.proofs.lemmas.Option.{slice_get_within}
 use Rattle.mal_base.specs.NumberedClause.{Line}
 use Rattle.mal_base.specs.declared.answer.Answer.{Answer}
-use Rattle.mal_base.specs.declared.answer.Answer.TheVariants.{Satisfied, Refuted}
 use Rattle.mal_base.specs.declared.verdict.Outcome.TheVariants.{Ran}
 use Rattle.mal_base.specs.declared.verdict.Verdict.{Verdict}
 use Rattle.mal_base.specs.declared.verdict.Verdict.TheVariants.{Satisfiable, Unsatisfiable}
-use Rattle.mal_revision.specs.Posted.{Posted}
-use Rattle.spec_job.specs.Lawful.{IsLawful}
 use Rattle.spec_job.specs.Leased.{model_with}
 use Rattle.spec_job.specs.Models.{variables_through}
-use Rattle.spec_job.specs.SoloMachine.{Own, Finished, Lease, Slice, SoloMachine, solo, place_at, is_late, remembered}
+use Rattle.spec_job.specs.SoloMachine.{Finished, Lease, Slice, SoloMachine, solo, place_at, is_late, remembered}
 use Rattle.spec_job.specs.Viewed.{JobView}
 use Rattle.spec_search.specs.Slice.{Sliced}
+use Rattle.spec_lrat.specs.Laws.{WrittenIsRead}
 use Rattle.spec_parcel.specs.Packed.{answer_bytes, listed, slice_bytes}
 use Rattle.mal_job.specs.Asking.{answer_by}
 use Rattle.mal_job.specs.Finishing.{MayFollow, slice_out}
 use Rattle.mal_job.proofs.FollowLemmas.{next-slice, next-answer, may-follow}
-use Rattle.mal_parcel.specs.Replaying.{ComesNext, IsBefore, IsReadable, slices_left, answers_left}
-use Rattle.mal_parcel.specs.Taking.{HasGoal, HasValues, verdict_of}
+use Rattle.mal_parcel.specs.Answered.{given_at}
+use Rattle.mal_parcel.specs.Replaying.{IsBefore, slices_left}
+use Rattle.mal_parcel.specs.Told.{lines_in, slice_at}
+use Rattle.mal_parcel.proofs.AnsweredLemmas.{ComesNext, given-again}
+use Rattle.mal_parcel.proofs.ReadLemmas.{IsReadable, lines-again}
+use Rattle.mal_parcel.proofs.TakeLemmas.{told-again}
 use Rattle.mal_parcel.proofs.PassLemmas.{lawful-passes, lease-out, ran-slices, ran-whole, slices-next}
 use Rattle.mal_parcel.proofs.ReadableLemmas.{slice-readable, lawful-goal}
 
@@ -82,10 +83,10 @@ module _ (i : ℕ) (j : JobView) (slices answers : List ℕ) (b : IsBefore (Fini
       soon w is = next-answer b.past [] i lease.0 lease.1 w now (e ∙ ap (λ (y : Verdict). Some y) is)
 
       by_verdict : (w : Verdict) → v ≡ w → ComesNext (variables_through s.revisions (length s.answers)) answers (a w)
-      by_verdict Satisfiable is = record { values = ran-whole b.past i b.later (model_with (Some Satisfiable) x.node) b.lawful (soon Satisfiable is); goal = tt; verdict = refl; more = flat_map answer_bytes (drop (suc (length s.answers)) whole.answers); front = front Satisfiable is }
+      by_verdict Satisfiable is = record { verdict = ran-whole b.past i b.later (model_with (Some Satisfiable) x.node) b.lawful (soon Satisfiable is); more = flat_map answer_bytes (drop (suc (length s.answers)) whole.answers); front = front Satisfiable is }
       by_verdict (Unsatisfiable goal) is =
           let low : (1 ≤ goal) × (goal < 2 ^ 62) = lawful-goal (b.past ++ Finished i Ran ∷ b.later) b.lawful (length s.answers) goal (next-answer b.past b.later i lease.0 lease.1 (Unsatisfiable goal) now (e ∙ ap (λ (y : Verdict). Some y) is)) in
-          record { values = tt; goal = (low.0, omega (arith, low.1)); verdict = refl; more = flat_map answer_bytes (drop (suc (length s.answers)) whole.answers); front = front (Unsatisfiable goal) is }
+          record { verdict = (low.0, omega (arith, low.1)); more = flat_map answer_bytes (drop (suc (length s.answers)) whole.answers); front = front (Unsatisfiable goal) is }
 
   -- where the slice ends a revision the next answer is its
   pub next-ends : next.ends ≡ true → (a : Answer) × ((slice_get whole.answers (length s.answers) ≡ Some a) × ComesNext (variables_through s.revisions (length s.answers)) answers a)
@@ -97,11 +98,21 @@ module _ (i : ℕ) (j : JobView) (slices answers : List ℕ) (b : IsBefore (Fini
       by_test false now (Some v) is q = verdict-is v now is
 
   -- what was read of it is what has to be given
-  pub next-given : (ends : Bool) (answer : Option (Option Answer)) → ends ≡ next.ends → (ends ≡ false → answer ≡ Some None) → (ends ≡ true → (a : Answer) → ComesNext (variables_through j.titled.state.revisions (length j.titled.state.answers)) answers a → answer ≡ Some (Some a)) → answer ≡ Some (cond next.ends (slice_get whole.answers (length s.answers)) None)
-  next-given ends answer same none some = by_ends next.ends refl
+  pub next-given : given_at next.ends (variables_through j.titled.state.revisions (length j.titled.state.answers)) answers ≡ Some (cond next.ends (slice_get whole.answers (length s.answers)) None)
+  next-given = by_ends next.ends refl
     where
-      by_ends : (e : Bool) → next.ends ≡ e → answer ≡ Some (cond e (slice_get whole.answers (length s.answers)) None)
-      by_ends false is = none (same ∙ is)
+      by_ends : (e : Bool) → next.ends ≡ e → given_at e (variables_through j.titled.state.revisions (length j.titled.state.answers)) answers ≡ Some (cond e (slice_get whole.answers (length s.answers)) None)
+      by_ends false is = refl
       by_ends true is =
           let found = next-ends is in
-          some (same ∙ is) found.0 (subst (λ (t : SoloMachine). ComesNext (variables_through t.revisions (length t.answers)) answers found.0) (sym state-is) found.1.1) ∙ ap (λ (o : Option Answer). Some o) (sym found.1.0)
+          ap (λ (t : SoloMachine). given_at true (variables_through t.revisions (length t.answers)) answers) state-is
+          ∙ (given-again (variables_through s.revisions (length s.answers)) answers found.0 found.1.1 ∙ ap (λ (o : Option Answer). Some o) (sym found.1.0))
+
+  -- the slice is read
+  pub next-told : WrittenIsRead → length slices < 2 ^ 63 → slice_at slices ≡ Some (next.lines, (next.ends, slices_left whole after))
+  next-told written short =
+      let rest : List ℕ = slices_left whole after in
+      let fits : length (slice_bytes next ++ rest) < 2 ^ 63 = omega (arith, short, ap (λ (bs : List ℕ). length bs) next-bytes) in
+      ap slice_at next-bytes
+      ∙ (ap (option_and_then (λ (t : Bool × (List ℕ × List ℕ)). option_map (λ (ls : List Line). (ls, (t.0, t.1.1))) (lines_in t.1.0))) (told-again next rest fits)
+      ∙ ap (option_map (λ (ls : List Line). (ls, (next.ends, rest)))) (lines-again written next.lines next-readable))

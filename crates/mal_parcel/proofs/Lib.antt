@@ -1,5 +1,5 @@
 pub mod TakeLemmas
-pub mod TakenLemmas
+pub mod AnsweredLemmas
 pub mod LineLemmas
 pub mod PackLemmas
 pub mod ReadableLemmas

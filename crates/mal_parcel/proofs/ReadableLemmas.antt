@@ -1,6 +1,6 @@
 -- The lines of the slices of a lawful job are read again.
-use Rattle.std.proofs.Common.{◌≡◌, ℕ, zero, suc, ◌+◌, ◌-◌, ◌*◌, ◌/◌, ◌<◌, ◌≤◌, ◌^◌, Bool, true, false, List, [], ◌∷◌, ◌++◌, length, take, fold, max, Option, Some, None, refl, sym, ◌∙◌, ap, subst, inl, inr, ◌⊎◌, arith, append_assoc, length-append}
-use Rattle.std.specs.Prelude.{All, Contains, flat_map, slice_get}
+use Rattle.std.proofs.Common.{◌≡◌, ℕ, zero, suc, ◌+◌, ◌-◌, ◌*◌, ◌/◌, ◌<◌, ◌≤◌, ◌^◌, true, List, [], ◌∷◌, ◌++◌, length, take, fold, max, Some, refl, sym, ◌∙◌, ap, subst, inl, inr, ◌⊎◌, arith, length-append}
+use Rattle.std.specs.Prelude.{All, flat_map, slice_get}
 use Rattle.std.specs.List.{AllByRecursion}
 use Rattle.std.proofs.lemmas.List.{take_at}
 use Rattle.std.proofs.lemmas.List.Elements.{All-nil, All-cons, All-head, All-tail, All-take, All-weaker, All-contains, recursion_from_All}
@@ -12,23 +12,23 @@ use Rattle.mal_base.specs.Asks.{Terms}
 use Rattle.mal_base.specs.declared.answer.Answer.TheVariants.{Refuted}
 use Rattle.mal_revision.specs.Posted.{Posted, is_posted}
 use Rattle.spec_logic.specs.Refutation.{numbered}
-use Rattle.spec_proof.specs.Log.{IsAbove, added}
+use Rattle.spec_proof.specs.Log.{IsAbove}
 use Rattle.spec_proof.proofs.Among.{Among, among-append, of-all}
 use Rattle.spec_lrat.specs.Laws.{IsId}
 use Rattle.spec_node.specs.State.{Node}
 use Rattle.spec_node.specs.Sound.{IsSound, IsLiteralOf, AreLiteralsOf}
 use Rattle.spec_search.specs.Slice.{Sliced, slice}
 use Rattle.spec_search.specs.Laws.{AreNumbered}
-use Rattle.spec_search.specs.Derived.{IsHeld, IsDerivedFrom, AreDerivedFrom, with_line}
+use Rattle.spec_search.specs.Derived.{IsHeld, AreDerivedFrom, with_line}
 use Rattle.spec_search.proofs.LineLemmas.{lines-derived, lines-counted}
 use Rattle.spec_node.proofs.ImportLemmas.{All-with_clause}
 use Rattle.spec_job.specs.Journal.{JournalEntry, Run, replay}
-use Rattle.spec_job.specs.SoloMachine.{Own, Opened, Revised, Reasked, Closed, Volume, Started, Finished, Exchanged, Lease, Slice, SoloMachine, unopened, solo, solo_step, place_at, first_empty, settled_by}
-use Rattle.spec_job.specs.Runnable.{MayHappen, IsRunnable}
+use Rattle.spec_job.specs.SoloMachine.{Own, Opened, Revised, Reasked, Closed, Volume, Started, Finished, Exchanged, Lease, Slice, SoloMachine, solo, solo_step, place_at, first_empty}
+use Rattle.spec_job.specs.Runnable.{IsRunnable}
 use Rattle.spec_job.specs.Models.{clauses_of, variables_of}
 use Rattle.spec_job.specs.Counts.{runs_of, starts_out, IsOpenedOnce}
 use Rattle.spec_job.specs.Lawful.{MayPass, AllPass, IsLawful}
-use Rattle.spec_job.specs.Provenance.{IsLineOf, IsOwn, IsOutOwn, ClausesAreOwn}
+use Rattle.spec_job.specs.Provenance.{IsOwn, IsOutOwn, ClausesAreOwn}
 use Rattle.spec_job.proofs.CountLemmas.{replay-runs}
 use Rattle.spec_job.proofs.DerivingLemmas.{IsRunning, IsRefuted}
 use Rattle.spec_job.proofs.FinishLemmas.{slice_of, finished-leaves, settled-leaves}
@@ -40,7 +40,7 @@ use Rattle.spec_job.proofs.PushLemmas.{events-keep, runnable-push}
 use Rattle.spec_job.proofs.RefutingLemmas.{runnable-answers_follow}
 use Rattle.spec_job.proofs.RunsLemmas.{events-within, opened-within, runs-are_few}
 use Rattle.spec_job.proofs.SlicesLemmas.{logs-are-slices}
-use Rattle.mal_parcel.specs.Replaying.{IsReadable}
+use Rattle.mal_parcel.proofs.ReadLemmas.{IsReadable}
 
 -- numbers of clauses that are held count from 1
 abbrev AreSome : List NumberedClause → Type 0

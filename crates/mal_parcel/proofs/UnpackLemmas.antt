@@ -1,18 +1,23 @@
 -- Own events one after another, and nodes one after another.
-use Rattle.std.proofs.Common.{◌≡◌, ℕ, zero, suc, ◌+◌, ◌<◌, ◌≤◌, ◌^◌, List, [], ◌∷◌, ◌++◌, length, map, take, drop, get_or, Some, refl, sym, ◌∙◌, ap, subst, arith, append_assoc}
+use Rattle.std.proofs.Common.{◌≡◌, ℕ, zero, suc, ◌+◌, ◌<◌, ◌≤◌, ◌^◌, List, [], ◌∷◌, ◌++◌, length, take, drop, get_or, Some, sym, ◌∙◌, ap, subst, arith, append_assoc, length-append, Ok}
 use Rattle.std.specs.Prelude.{flat_map, slice_get}
 use Rattle.std.specs.List.{AllByRecursion}
-use Rattle.std.proofs.lemmas.Option.{slice_get-get_or}
+use Rattle.std.proofs.lemmas.Option.{same_Some, slice_get-get_or}
 use Rattle.spec_job.specs.KeyedJob.{Key}
 use Rattle.spec_job.specs.Lawful.{IsLawful}
 use Rattle.spec_job.specs.SoloMachine.{Own, SoloMachine}
-use Rattle.spec_job.specs.Viewed.{JobView}
-use Rattle.spec_parcel.specs.Packed.{node_bytes}
+use Rattle.spec_job.specs.Viewed.{JobView, journal_at}
+use Rattle.mal_freeze.specs.Reading.{image_in}
+use Rattle.mal_freeze.specs.Spelling.{image_bytes}
+use Rattle.mal_suspend.specs.Freezing.{IsFrozen}
+use Rattle.spec_parcel.specs.Packed.{node_at, node_bytes, placed}
 use Rattle.mal_parcel.specs.declared.owned.OwnEvent.{OwnEvent}
 use Rattle.mal_parcel.specs.Owned.{own_of, owned}
 use Rattle.mal_parcel.specs.Parcelled.{IsReadBack}
 use Rattle.mal_parcel.specs.Replaying.{IsBefore, IsNext, IsReplayed, IsToWake}
+use Rattle.mal_parcel.specs.Taking.{behind_node, placed_at}
 use Rattle.mal_parcel.proofs.PassLemmas.{never-again}
+use Rattle.mal_parcel.proofs.TakeLemmas.{behind_node-again, placed-again}
 
 -- what stands at a place parts a list
 parted : {X : Type 0} (xs : List X) (n : ℕ) (x : X) → slice_get xs n ≡ Some x → take n xs ++ x ∷ drop (suc n) xs ≡ xs
@@ -63,10 +68,34 @@ first-next s count bytes some h = by_indices h.indices h.counted h.low h.again h
     by_indices [] counted low again front = absurd (omega (arith, counted, some))
     by_indices (i ∷ is) counted low again front = record { index = i; more = flat_map (node_bytes s) is ++ h.more; low = low.0; again = again.0; front = front ∙ append_assoc (node_bytes s i) (flat_map (node_bytes s) is) h.more }
 
+-- what is behind it
+pub behind-next : (s : SoloMachine) (i : ℕ) (more bytes rest : List ℕ) → length bytes < 2 ^ 63 → bytes ≡ node_bytes s i ++ more → behind_node bytes ≡ Some rest → rest ≡ more
+behind-next s i more bytes rest short front behind = same_Some rest more (sym behind ∙ (ap behind_node front ∙ behind_node-again (placed s i) more (omega (arith, short, ap (λ (bs : List ℕ). length bs) front))))
+
 -- and the others
-pub others-left : (s : SoloMachine) (count fewer : ℕ) (bytes rest : List ℕ) → fewer + 1 ≡ count → ((i : ℕ) (more : List ℕ) → i ≤ 63 → bytes ≡ node_bytes s i ++ more → rest ≡ more) → IsToWake s count bytes → IsToWake s fewer rest
-others-left s count fewer bytes rest one behind h = by_indices h.indices h.counted h.low h.again h.front
+pub others-left : (s : SoloMachine) (count fewer : ℕ) (bytes rest : List ℕ) → fewer + 1 ≡ count → length bytes < 2 ^ 63 → behind_node bytes ≡ Some rest → IsToWake s count bytes → IsToWake s fewer rest × (length rest < 2 ^ 63)
+others-left s count fewer bytes rest one short behind h = by_indices h.indices h.counted h.low h.again h.front
   where
-    by_indices : (is : List ℕ) → length is ≡ count → AllByRecursion (λ i. i ≤ 63) is → AllByRecursion (IsReadBack s) is → bytes ≡ flat_map (node_bytes s) is ++ h.more → IsToWake s fewer rest
+    by_indices : (is : List ℕ) → length is ≡ count → AllByRecursion (λ i. i ≤ 63) is → AllByRecursion (IsReadBack s) is → bytes ≡ flat_map (node_bytes s) is ++ h.more → IsToWake s fewer rest × (length rest < 2 ^ 63)
     by_indices [] counted low again front = absurd (omega (arith, counted, one))
-    by_indices (i ∷ is) counted low again front = record { indices = is; more = h.more; counted = omega (arith, counted, one); low = low.1; again = again.1; front = behind i (flat_map (node_bytes s) is ++ h.more) low.0 (front ∙ append_assoc (node_bytes s i) (flat_map (node_bytes s) is) h.more) }
+    by_indices (i ∷ is) counted low again front =
+        let left : List ℕ = flat_map (node_bytes s) is ++ h.more in
+        let apart : bytes ≡ node_bytes s i ++ left = front ∙ append_assoc (node_bytes s i) (flat_map (node_bytes s) is) h.more in
+        let next : rest ≡ left = behind-next s i left bytes rest short apart behind in
+        (record { indices = is; more = h.more; counted = omega (arith, counted, one); low = low.1; again = again.1; front = next }, omega (arith, short, ap (λ (bs : List ℕ). length bs) apart, length-append (node_bytes s i) left, ap (λ (bs : List ℕ). length bs) next))
+
+-- the node at the front is found
+pub next-found : (s : SoloMachine) (bytes : List ℕ) → length bytes < 2 ^ 63 → (h : IsNext s bytes) → placed_at bytes ≡ Some (h.index, (image_bytes (node_at s h.index), h.more))
+next-found s bytes short h = ap placed_at h.front ∙ placed-again (placed s h.index) h.more (omega (arith, h.low)) (omega (arith, short, ap (λ (bs : List ℕ). length bs) h.front))
+
+-- by its index and its image
+pub next-is : (s : SoloMachine) (bytes : List ℕ) → length bytes < 2 ^ 63 → (h : IsNext s bytes) → (index : ℕ) (image rest : List ℕ) → Some (index, (image, rest)) ≡ placed_at bytes → (index ≡ h.index) × (image ≡ image_bytes (node_at s h.index))
+next-is s bytes short h index image rest found =
+    let same = same_Some {A = ℕ × (List ℕ × List ℕ)} (index, (image, rest)) (h.index, (image_bytes (node_at s h.index), h.more)) (found ∙ next-found s bytes short h) in
+    (ap (λ (p : ℕ × (List ℕ × List ℕ)). p.0) same, ap (λ (p : ℕ × (List ℕ × List ℕ)). p.1.0) same)
+
+pub next-frozen : (v : JobView) (bytes : List ℕ) → (h : IsNext v.titled.state bytes) → (index : ℕ) (image : List ℕ) → index ≡ h.index → image ≡ image_bytes (node_at v.titled.state h.index) → IsFrozen image (journal_at v index)
+next-frozen v bytes h index image at is = record {
+  spelled = is ∙ ap (λ (i : ℕ). image_bytes (node_at v.titled.state i)) (sym at);
+  again = subst (λ (i : ℕ). image_in image ≡ Ok (node_at v.titled.state i)) (sym at) (subst (λ (bs : List ℕ). image_in bs ≡ Ok (node_at v.titled.state h.index)) (sym is) h.again);
+}

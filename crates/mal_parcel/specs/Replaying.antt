@@ -1,43 +1,14 @@
 -- A job that does again what its own events tell, along the bytes of its slices and of its answers.
-use Rattle.std.specs.Prelude.{◌≡◌, ℕ, ◌≤◌, Bool, true, false, List, [], ◌∷◌, ◌++◌, drop, length, flat_map, Option, Some}
-use Rattle.std.specs.Int.{w64}
+use Rattle.std.specs.Prelude.{◌≡◌, ℕ, ◌≤◌, Bool, true, false, List, ◌∷◌, ◌++◌, drop, length, flat_map}
 use Rattle.std.specs.List.{AllByRecursion}
-use Rattle.mal_base.specs.NumberedClause.{Line}
-use Rattle.mal_base.specs.declared.answer.Answer.{Answer}
 use Rattle.mal_base.specs.declared.verdict.Outcome.TheVariants.{Ran}
-use Rattle.spec_text.specs.Lines.{line_of}
-use Rattle.spec_proof.specs.Log.{added}
-use Rattle.spec_lrat.specs.Laws.{IsLine}
-use Rattle.spec_lrat.specs.Written.{row_of}
-use Rattle.mal_freeze.specs.Spelling.{spelled}
 use Rattle.spec_job.specs.Counts.{is_opening}
 use Rattle.spec_job.specs.KeyedJob.{Key}
 use Rattle.spec_job.specs.Lawful.{IsLawful}
-use Rattle.spec_job.specs.SoloMachine.{Own, Finished, Slice, SoloMachine, solo}
+use Rattle.spec_job.specs.SoloMachine.{Own, Finished, SoloMachine, solo}
 use Rattle.spec_job.specs.Viewed.{JobView, unstarted}
-use Rattle.spec_parcel.specs.Packed.{Placed, answer_bytes, listed, node_bytes, placed_bytes, slice_bytes}
+use Rattle.spec_parcel.specs.Packed.{answer_bytes, listed, node_bytes, slice_bytes}
 use Rattle.mal_parcel.specs.Parcelled.{IsReadBack}
-use Rattle.mal_parcel.specs.Taking.{HasGoal, HasValues, verdict_of}
-
--- a line whose text is read again
-abbrev pub IsReadable : Line → Type 0
-IsReadable line = IsLine 0 (added line)
-
--- the text of lines
-abbrev pub text_of_lines : List Line → List ℕ
-text_of_lines lines = flat_map (λ l. line_of (row_of (added l))) lines
-
--- at the front stands a slice: whether it ends a revision and the text of its lines, and this behind them
-abbrev pub found_told : Bool → List ℕ → List ℕ → Option (Bool × (List ℕ × List ℕ))
-found_told ends text more = Some (ends, (text, more))
-
--- a slice stands at the front: its lines and whether it ends a revision, and this behind it
-abbrev pub found_slice : Slice → List ℕ → Option (List Line × (Bool × List ℕ))
-found_slice c more = Some (c.lines, (c.ends, more))
-
--- at the front stand the index and the image of a node, and this behind them
-abbrev pub found_placed : ℕ → List ℕ → List ℕ → Option (ℕ × (List ℕ × List ℕ))
-found_placed index image more = Some (index, (image, more))
 
 -- the node of a place stands at the front, with an image that is read to it
 pub record IsNext (s : SoloMachine) (bytes : List ℕ) : Type 0 where
@@ -55,16 +26,6 @@ pub record IsToWake (s : SoloMachine) (count : ℕ) (bytes : List ℕ) : Type 0 
   pub low : AllByRecursion (λ i. i ≤ 63) indices
   pub again : AllByRecursion (IsReadBack s) indices
   pub front : bytes ≡ flat_map (node_bytes s) indices ++ more
-
--- the sections from the nodes on: nodes, slices and answers, each behind its count
-abbrev pub machine_of : List Placed → List Slice → List ℕ → List ℕ → List ℕ
-machine_of ps cs count answers = spelled w64 (length ps) ++ (flat_map placed_bytes ps ++ (spelled w64 (length cs) ++ (flat_map slice_bytes cs ++ (count ++ answers))))
-
--- how many nodes there are and what stands from the first on, what stands from the first slice on, and from the first
--- answer on
-abbrev pub found_machine : List Placed → List Slice → List ℕ → List ℕ → Option (ℕ × (List ℕ × (List ℕ × List ℕ)))
-found_machine ps cs count answers =
-    Some (length ps, (flat_map placed_bytes ps ++ (spelled w64 (length cs) ++ (flat_map slice_bytes cs ++ (count ++ answers))), (flat_map slice_bytes cs ++ (count ++ answers), answers)))
 
 -- the bytes of the slices that a machine has and another, which it runs on to, has besides, and of all answers
 abbrev pub slices_left : SoloMachine → SoloMachine → List ℕ
@@ -85,14 +46,6 @@ pub record IsReplayed (number : ℕ) (key : Key) (own past : List Own) (j : JobV
 abbrev pub is_ran : Own → Bool
 is_ran (Finished i Ran) = true
 is_ran event = false
-
--- the answer that comes next, of a job of so many variables by then: a verdict, whose bytes stand at the front
-pub record ComesNext (variables : ℕ) (bytes : List ℕ) (answer : Answer) : Type 0 where
-  pub values : HasValues variables answer
-  pub goal : HasGoal answer
-  pub verdict : verdict_of answer ≡ Some answer
-  pub more : List ℕ
-  pub front : bytes ≡ answer_bytes answer ++ more
 
 -- the index of a start that ends is that of a node
 abbrev pub IsLow : Own → Type 0

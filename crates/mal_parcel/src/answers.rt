@@ -1,12 +1,9 @@
 //! The section of the answers.
 
-ghost use Rattle.std.specs.Prelude.{◌≡◌, ◌==◌, ℕ, ◌<◌, ◌≤◌, ◌^◌, [], ◌∷◌, ◌++◌, Bool, List, length, map, flat_map, IfOk, OnOk};
-ghost use Rattle.mal_base.specs.declared.answer.Answer.{Answer};
-ghost use Rattle.mal_base.specs.declared.answer.Answer.TheVariants.{Satisfied, Refuted};
-ghost use Rattle.std.specs.Int.{w64};
-ghost use Rattle.mal_freeze.specs.Spelling.{phase_code, spelled};
+ghost use Rattle.std.specs.Prelude.{◌≡◌, ◌==◌, ◌≤◌, [], ◌∷◌, ◌++◌, length, map, flat_map, IfOk, OnOk};
+ghost use Rattle.mal_freeze.specs.Spelling.{phase_code};
 ghost use Rattle.spec_parcel.specs.Packed.{answer_bytes, listed};
-ghost use Rattle.mal_parcel.specs.Taking.{HasGoal, HasValues, Takes, found, verdict_of};
+ghost use Rattle.mal_parcel.specs.{Answered.{answer_at, goal_at, model_at}, Taking.{Takes}};
 
 use crate::sized::{put_length, put_number, take_number};
 use mal_base::{Answer, ClauseId, Values};
@@ -74,15 +71,14 @@ pub fn phase_code(value: bool) -> u8
 }
 
 /// The answer at the front, where it is a verdict, of a job with so many variables by then, and what stands behind it.
-/// None only where no answer begins the bytes.
+/// None where no answer stands there.
 pub fn take_answer(
     alloc: Global,
     variables: usize,
     bytes: &[u8],
 ) -> Result<Option<(Option<Answer>, &[u8])>, AllocError>
     requires { variables ≤ 65536 }
-    ensures { (a : Answer) (more : List ℕ) → HasValues variables a → HasGoal a → bytes.now ≡ answer_bytes a ++ more
-        → IfOk result (λ o. Takes (λ x. (x.0, x.1.now)) o (found (verdict_of a) more)) }
+    ensures { IfOk result (λ o. Takes (λ x. (x.0, x.1.now)) o (answer_at variables bytes.now)) }
 {
     match bytes {
         [1, rest @ ..] => take_model(alloc, variables, rest),
@@ -100,25 +96,14 @@ fn take_model(
     bytes: &[u8],
 ) -> Result<Option<(Option<Answer>, &[u8])>, AllocError>
     requires { variables ≤ 65536 }
-    ensures { (model : List Bool) (more : List ℕ) → length model ≡ variables
-        → bytes.now ≡ map phase_code model ++ more
-        → IfOk result (λ o. Takes (λ x. (x.0, x.1.now)) o (found (verdict_of (Satisfied model)) more)) }
+    ensures { IfOk result (λ o. Takes (λ x. (x.0, x.1.now)) o (model_at variables bytes.now)) }
 {
     if bytes.len() < variables {
         return Ok(None);
     }
     let (front, rest) = bytes.split_at(variables);
-    let values = values(alloc, front)?;
+    let values = ones(alloc, front)?;
     Ok(Some((Some(Answer::Satisfied(Values::of(values))), rest)))
-}
-
-/// The values of these bytes.
-fn values(alloc: Global, bytes: &[u8]) -> Result<Vec<bool>, AllocError>
-    ensures values { (model : List Bool) → bytes.now ≡ map phase_code model → IfOk result (λ v. v.items ≡ model) }
-    ensures count { IfOk result (λ v. length v.items ≡ length bytes.now) }
-{
-    let found = ones(alloc, bytes)?;
-    Ok(found)
 }
 
 /// Which of these bytes are 1.
@@ -135,8 +120,7 @@ fn ones(alloc: Global, bytes: &[u8]) -> Result<Vec<bool>, AllocError>
 
 /// The goal of 8 bytes at the front, and what stands behind it.
 fn take_goal(bytes: &[u8]) -> Option<(Option<Answer>, &[u8])>
-    ensures { (goal : ℕ) (more : List ℕ) → 1 ≤ goal → goal < 2 ^ 64 → bytes.now ≡ spelled w64 goal ++ more
-        → Takes (λ x. (x.0, x.1.now)) result (found (verdict_of (Refuted goal)) more) }
+    ensures { Takes (λ x. (x.0, x.1.now)) result (goal_at bytes.now) }
 {
     let (number, rest) = take_number(bytes)?;
     let goal = ClauseId::of(number)?;

@@ -1,14 +1,12 @@
 //! A job does again what its own events tell. Slices are not run: their lines and answers stand in bytes, which are
 //! known.
 
-ghost use Rattle.std.specs.Prelude.{◌≡◌, ℕ, [], ◌∷◌, ◌++◌, ◌≤◌, List, Some, None, false, true, drop, flat_map, is_some, length, replicate, IfOk, MatchOption, OnOk};
-ghost use Rattle.std.specs.List.{AllByRecursion};
-ghost use Rattle.mal_base.specs.declared.answer.Answer.{Answer};
+ghost use Rattle.std.specs.Prelude.{◌≡◌, [], ◌∷◌, ◌++◌, ◌≤◌, false, true, drop, flat_map, is_some, length, replicate, IfOk, MatchOption, OnOk};
 ghost use Rattle.mal_base.specs.declared.verdict.Outcome.TheVariants.{Ran};
-ghost use Rattle.spec_job.specs.{Lawful.{MayGrow, MayPass}, Models.{variables_of, variables_through}, SoloMachine.{Finished, Revised, Slice, Started, place_at, solo, startable}, Viewed.{and_own}};
-ghost use Rattle.spec_parcel.specs.Packed.{answer_bytes, slice_bytes};
+ghost use Rattle.spec_job.specs.{Lawful.{MayGrow, MayPass}, Models.{variables_of, variables_through}, SoloMachine.{Finished, Revised, Started, place_at, solo, startable}, Viewed.{and_own}};
+ghost use Rattle.spec_parcel.specs.Packed.{answer_bytes};
 ghost use Rattle.mal_job.specs.Viewed.{shared};
-ghost use Rattle.mal_parcel.specs.{Owned.{own_of}, Replaying.{ComesNext, IsBefore, IsLow, IsReadable, IsReplayed, found_slice, is_ran, slices_left}, Taking.{Takes}};
+ghost use Rattle.mal_parcel.specs.{Answered.{given_at}, Owned.{own_of}, Replaying.{IsBefore, IsLow, IsReplayed, is_ran, slices_left}, Taking.{Takes}, Told.{slice_at}};
 
 use crate::answers::take_answer;
 use crate::owned::OwnEvent;
@@ -102,6 +100,7 @@ fn follow_next<'a>(
     ensures slices { IfOk result (λ r. (b : IsBefore (Finished index Ran) job.old slices.now answers.now)
         → r.now ≡ slices_left (solo (b.past ++ Finished index Ran ∷ b.later)) (solo (b.past ++ Finished index Ran ∷ []))) }
 {
+    spec_lrat::written_is_read();
     let Some((lines, ends, rest)) = take_slice(alloc, slices)? else {
         unreachable!();
     };
@@ -112,11 +111,10 @@ fn follow_next<'a>(
     Ok(rest)
 }
 
-/// The lines of the slice at the front, whether it ends a revision, and what stands behind it. None only where no slice
-/// begins the bytes.
+/// The lines of the slice at the front, whether it ends a revision, and what stands behind it. None where no slice stands
+/// there.
 fn take_slice(alloc: Global, bytes: &[u8]) -> Result<Option<(Lines, bool, &[u8])>, AllocError>
-    ensures { (c : Slice) (more : List ℕ) → AllByRecursion IsReadable c.lines → bytes.now ≡ slice_bytes c ++ more
-        → IfOk result (λ o. Takes (λ x. (x.0.lines, (x.1, x.2.now))) o (found_slice c more)) }
+    ensures { IfOk result (λ o. Takes (λ x. (x.0.lines, (x.1, x.2.now))) o (slice_at bytes.now)) }
 {
     let Some((ends, text, rest)) = take_told(bytes) else {
         return Ok(None);
@@ -127,18 +125,16 @@ fn take_slice(alloc: Global, bytes: &[u8]) -> Result<Option<(Lines, bool, &[u8])
     }
 }
 
-/// The next answer of a job, where a slice ends a revision. The outer option is None only where no verdict begins the
-/// bytes.
+/// The next answer of a job, where a slice ends a revision and the answer is a verdict. The outer option is None where no
+/// answer stands at the front.
 fn next_answer(
     alloc: Global,
     job: &Job,
     ends: bool,
     answers: &[u8],
 ) -> Result<Option<Option<Answer>>, AllocError>
-    ensures none { ends ≡ false → IfOk result (λ o. o ≡ Some None) }
-    ensures some { ends ≡ true → (a : Answer)
-        → ComesNext (variables_through job.now.titled.state.revisions (length job.now.titled.state.answers)) answers.now a
-        → IfOk result (λ o. o ≡ Some (Some a)) }
+    ensures { IfOk result (λ o. o ≡ given_at ends
+        (variables_through job.now.titled.state.revisions (length job.now.titled.state.answers)) answers.now) }
 {
     if !ends {
         return Ok(Some(None));

@@ -1,21 +1,16 @@
-//! What stands behind known slices and known answers.
+//! What stands behind slices, nodes and answers.
 
-ghost use Rattle.std.specs.Prelude.{◌≡◌, ℕ, ◌∷◌, ◌++◌, Bool, List, drop, flat_map, length, Some};
-ghost use Rattle.std.specs.Int.{w64};
-ghost use Rattle.mal_freeze.specs.Spelling.{phase_code, spelled};
-ghost use Rattle.spec_job.specs.SoloMachine.{Slice};
-ghost use Rattle.spec_parcel.specs.Packed.{Placed, answer_bytes, placed_bytes, sized, slice_bytes};
-ghost use Rattle.mal_parcel.specs.{Replaying.{found_told}, Taking.{Takes}};
+ghost use Rattle.std.specs.Prelude.{◌≡◌, drop, flat_map, length};
+ghost use Rattle.spec_parcel.specs.Packed.{answer_bytes};
+ghost use Rattle.mal_parcel.specs.Taking.{Takes, behind_each, behind_node, behind_number, behind_slice, placed_at, told_at};
 
-use crate::sized::take_sized;
+use crate::sized::{take_number, take_sized};
 use crate::slices::take_ends;
 use mal_base::Answer;
 
 /// Whether the slice at the front ends a revision, the text of its lines, and what stands behind it.
 pub fn take_told(bytes: &[u8]) -> Option<(bool, &[u8], &[u8])>
-    ensures { (ends : Bool) (n : ℕ) (text more : List ℕ)
-        → bytes.now ≡ phase_code ends ∷ (spelled w64 n ++ (sized text ++ more))
-        → Takes (λ x. (x.0, (x.1.now, x.2.now))) result (found_told ends text more) }
+    ensures { Takes (λ x. (x.0, (x.1.now, x.2.now))) result (told_at bytes.now) }
 {
     let (ends, rest) = take_ends(bytes)?;
     let rest = behind_number(rest)?;
@@ -25,18 +20,15 @@ pub fn take_told(bytes: &[u8]) -> Option<(bool, &[u8], &[u8])>
 
 /// What stands behind the number at the front.
 pub fn behind_number(bytes: &[u8]) -> Option<&[u8]>
-    ensures { (n : ℕ) (more : List ℕ) → bytes.now ≡ spelled w64 n ++ more → Takes (λ x. x.now) result (Some more) }
+    ensures { Takes (λ x. x.now) result (behind_number bytes.now) }
 {
-    if bytes.len() < 8 {
-        return None;
-    }
-    let (_, rest) = bytes.split_at(8);
+    let (_, rest) = take_number(bytes)?;
     Some(rest)
 }
 
 /// What stands behind the slice at the front.
 fn behind_slice(bytes: &[u8]) -> Option<&[u8]>
-    ensures { (c : Slice) (more : List ℕ) → bytes.now ≡ slice_bytes c ++ more → Takes (λ x. x.now) result (Some more) }
+    ensures { Takes (λ x. x.now) result (behind_slice bytes.now) }
 {
     let (_, _, rest) = take_told(bytes)?;
     Some(rest)
@@ -44,8 +36,7 @@ fn behind_slice(bytes: &[u8]) -> Option<&[u8]>
 
 /// What stands behind so many slices.
 pub fn behind_slices(count: u64, bytes: &[u8]) -> Option<&[u8]>
-    ensures { (cs : List Slice) (more : List ℕ) → length cs ≡ count → bytes.now ≡ flat_map slice_bytes cs ++ more
-        → Takes (λ x. x.now) result (Some more) }
+    ensures { Takes (λ x. x.now) result (behind_each behind_slice count bytes.now) }
 {
     let mut rest = bytes;
     for _ in 0..count {
@@ -54,19 +45,26 @@ pub fn behind_slices(count: u64, bytes: &[u8]) -> Option<&[u8]>
     Some(rest)
 }
 
+/// The index and the image of the node at the front, and what stands behind them.
+pub fn take_placed(bytes: &[u8]) -> Option<(u64, &[u8], &[u8])>
+    ensures { Takes (λ x. (x.0, (x.1.now, x.2.now))) result (placed_at bytes.now) }
+{
+    let (index, rest) = take_number(bytes)?;
+    let (image, rest) = take_sized(rest)?;
+    Some((index, image, rest))
+}
+
 /// What stands behind the node at the front.
 fn behind_node(bytes: &[u8]) -> Option<&[u8]>
-    ensures { (p : Placed) (more : List ℕ) → bytes.now ≡ placed_bytes p ++ more → Takes (λ x. x.now) result (Some more) }
+    ensures { Takes (λ x. x.now) result (behind_node bytes.now) }
 {
-    let rest = behind_number(bytes)?;
-    let (_, rest) = take_sized(rest)?;
+    let (_, _, rest) = take_placed(bytes)?;
     Some(rest)
 }
 
 /// What stands behind so many nodes.
 pub fn behind_nodes(count: u64, bytes: &[u8]) -> Option<&[u8]>
-    ensures { (ps : List Placed) (more : List ℕ) → length ps ≡ count → bytes.now ≡ flat_map placed_bytes ps ++ more
-        → Takes (λ x. x.now) result (Some more) }
+    ensures { Takes (λ x. x.now) result (behind_each behind_node count bytes.now) }
 {
     let mut rest = bytes;
     for _ in 0..count {

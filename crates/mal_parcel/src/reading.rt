@@ -1,25 +1,18 @@
-//! Reading the lines of a slice, which are known.
+//! Reading the lines of a slice.
 
-ghost use Rattle.std.specs.Prelude.{◌≡◌, [], ◌∷◌, ◌++◌, List, true, Some, IfOk};
-ghost use Rattle.std.specs.List.{AllByRecursion};
-ghost use Rattle.mal_base.specs.NumberedClause as numbered;
-ghost use Rattle.spec_text.specs.Inputs.{words_of};
-ghost use Rattle.spec_proof.specs.Log.{added};
-ghost use Rattle.spec_lrat.specs.Written.{row_of};
+ghost use Rattle.std.specs.Prelude.{◌≡◌, [], ◌∷◌, ◌++◌, true, IfOk, Ok};
 ghost use Rattle.mal_lrat.specs.LineView.{seen};
-ghost use Rattle.mal_parcel.specs.{Replaying.{IsReadable, text_of_lines}, Taking.{Takes}};
+ghost use Rattle.mal_parcel.specs.{Taking.{Takes}, Told.{IsPut, line_in, line_read, lines_in}};
 
 use mal_base::{ClauseId, Lines, Lit};
 use mal_lrat::{Line, LineFault, read_line};
 use mal_text::first_line;
 use std::alloc::{AllocError, Global};
 
-/// The lines of this text. None only where it is no text of lines.
+/// The lines of this text. None where it is no text of lines.
 pub fn lines_of(alloc: Global, text: &[u8]) -> Result<Option<Lines>, AllocError>
-    ensures { (ls : List numbered.Line) → AllByRecursion IsReadable ls → text.now ≡ text_of_lines ls
-        → IfOk result (λ o. Takes (λ v. v.lines) o (Some ls)) }
+    ensures { IfOk result (λ o. Takes (λ v. v.lines) o (lines_in text.now)) }
 {
-    spec_lrat::written_is_read();
     let mut lines = Lines::new(alloc);
     let mut rest = text;
     while let Some((line, behind)) = first_line(rest) {
@@ -33,10 +26,8 @@ pub fn lines_of(alloc: Global, text: &[u8]) -> Result<Option<Lines>, AllocError>
 
 /// Puts the line that a text without line end spells behind the others. Answers whether it is one of a slice.
 fn put_line(alloc: Global, lines: &mut Lines, line: &[u8]) -> Result<bool, AllocError>
-    ensures { (l : numbered.Line) → IsReadable l → words_of line.now ≡ row_of (added l)
-        → IfOk result (λ b. (b ≡ true) × (lines.new.lines ≡ lines.old.lines ++ l ∷ [])) }
+    ensures { IfOk result (λ put. IsPut (line_in line.now) put lines.old.lines lines.new.lines) }
 {
-    spec_lrat::written_is_read();
     match read_line(alloc, line, 0) {
         Ok(read) => put_read(lines, &read),
         Err(LineFault::OutOfMemory) => Err(AllocError),
@@ -47,10 +38,10 @@ fn put_line(alloc: Global, lines: &mut Lines, line: &[u8]) -> Result<bool, Alloc
     }
 }
 
-/// Puts a line that was read behind the others. A deletion and a tautology are no lines of a slice.
+/// Puts a line that was read behind the others. Answers whether it is one of a slice, which a deletion and a tautology are
+/// not.
 fn put_read(lines: &mut Lines, read: &Line) -> Result<bool, AllocError>
-    ensures { (l : numbered.Line) → seen read.now ≡ added l
-        → IfOk result (λ b. (b ≡ true) × (lines.new.lines ≡ lines.old.lines ++ l ∷ [])) }
+    ensures { IfOk result (λ put. IsPut (line_read (Ok (seen read.now))) put lines.old.lines lines.new.lines) }
 {
     match read {
         Line::Delete { .. } => Ok(false),

@@ -1,10 +1,10 @@
 //! Numbers of 8 bytes, and bytes behind their length.
 
-ghost use Rattle.std.specs.Prelude.{◌≡◌, ℕ, ◌<◌, ◌^◌, ◌++◌, List, OnOk, OnErr};
+ghost use Rattle.std.specs.Prelude.{◌≡◌, ◌++◌, OnOk, OnErr};
 ghost use Rattle.std.specs.Int.{w64};
 ghost use Rattle.mal_freeze.specs.Spelling.{spelled};
 ghost use Rattle.spec_parcel.specs.Packed.{sized};
-ghost use Rattle.mal_parcel.specs.Taking.{Takes, found, front_at, number_at};
+ghost use Rattle.mal_parcel.specs.Taking.{Takes, front_at, number_at, sized_at};
 
 use std::alloc::AllocError;
 
@@ -37,25 +37,8 @@ pub fn put_sized(out: &mut Vec<u8>, bytes: &[u8]) -> Result<(), AllocError>
     Ok(())
 }
 
-/// The number of 8 bytes at the front, and what stands behind it.
+/// The number of the 8 bytes at the front, and what stands behind it. None where there are fewer.
 pub fn take_number(bytes: &[u8]) -> Option<(u64, &[u8])>
-    ensures { (n : ℕ) (more : List ℕ) → n < 2 ^ 64 → bytes.now ≡ spelled w64 n ++ more
-        → Takes (λ x. (x.0, x.1.now)) result (found n more) }
-{
-    number_at(bytes)
-}
-
-/// The bytes at the front that stand behind their length, and what stands behind them.
-pub fn take_sized(bytes: &[u8]) -> Option<(&[u8], &[u8])>
-    ensures { (xs more : List ℕ) → bytes.now ≡ sized xs ++ more
-        → Takes (λ x. (x.0.now, x.1.now)) result (found xs more) }
-{
-    let (length, rest) = take_number(bytes)?;
-    front_at(length, rest)
-}
-
-/// The number of the 8 bytes at the front, and what is behind it. None where there are fewer.
-fn number_at(bytes: &[u8]) -> Option<(u64, &[u8])>
     ensures { Takes (λ x. (x.0, x.1.now)) result (number_at bytes.now) }
 {
     if bytes.len() < 8 {
@@ -68,7 +51,15 @@ fn number_at(bytes: &[u8]) -> Option<(u64, &[u8])>
     Some((number, rest))
 }
 
-/// So many bytes at the front, and what is behind them. None where there are fewer.
+/// The bytes at the front that stand behind their length, and what stands behind them. None where there are fewer.
+pub fn take_sized(bytes: &[u8]) -> Option<(&[u8], &[u8])>
+    ensures { Takes (λ x. (x.0.now, x.1.now)) result (sized_at bytes.now) }
+{
+    let (length, rest) = take_number(bytes)?;
+    front_at(length, rest)
+}
+
+/// So many bytes at the front, and what stands behind them. None where there are fewer.
 fn front_at(length: u64, bytes: &[u8]) -> Option<(&[u8], &[u8])>
     ensures { Takes (λ x. (x.0.now, x.1.now)) result (front_at length bytes.now) }
 {

@@ -1,14 +1,13 @@
 //! The section of the slices that were run.
 
-ghost use Rattle.std.specs.Prelude.{◌≡◌, ℕ, ◌<◌, ◌∷◌, ◌++◌, Bool, List, flat_map, length, slice_get, Some, IfOk, OnOk};
+ghost use Rattle.std.specs.Prelude.{◌≡◌, ◌<◌, ◌++◌, flat_map, length, slice_get, Some, IfOk, OnOk};
 ghost use Rattle.mal_base.specs.NumberedClause.{Line};
 ghost use Rattle.spec_job.specs.SoloMachine.{Slice};
 ghost use Rattle.spec_text.specs.Lines.{line_of};
 ghost use Rattle.spec_proof.specs.Log.{added};
 ghost use Rattle.spec_lrat.specs.Written.{row_of};
-ghost use Rattle.mal_freeze.specs.Spelling.{phase_code};
 ghost use Rattle.spec_parcel.specs.Packed.{listed, slice_bytes};
-ghost use Rattle.mal_parcel.specs.Taking.{Takes, found};
+ghost use Rattle.mal_parcel.specs.Taking.{Takes, ends_at};
 
 use crate::answers::phase_code;
 use crate::sized::{put_length, put_sized};
@@ -84,8 +83,7 @@ fn put_line(out: &mut Vec<u8>, lines: &Lines, n: usize) -> Result<(), AllocError
 
 /// Whether the slice at the front ends a revision, which its first byte says, and what stands behind that.
 pub fn take_ends(bytes: &[u8]) -> Option<(bool, &[u8])>
-    ensures { (b : Bool) (more : List ℕ) → bytes.now ≡ phase_code b ∷ more
-        → Takes (λ x. (x.0, x.1.now)) result (found b more) }
+    ensures { Takes (λ x. (x.0, x.1.now)) result (ends_at bytes.now) }
 {
     match bytes {
         [] => None,

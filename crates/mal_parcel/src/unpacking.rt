@@ -1,16 +1,14 @@
 //! A job is made from its parcel: it does again what its own events tell.
 
-ghost use Rattle.std.specs.Prelude.{◌≡◌, ℕ, ◌<◌, ◌≤◌, ◌^◌, ◌++◌, All, List, codes, length, take, IfOk, OnOk};
-ghost use Rattle.std.specs.Int.{w64};
-ghost use Rattle.mal_freeze.specs.Spelling.{spelled};
-ghost use Rattle.spec_job.specs.{Lawful.{IsLawful}, SoloMachine.{Slice, solo}, Viewed.{unstarted}};
-ghost use Rattle.spec_parcel.specs.Packed.{Placed, node_bytes, parcel_bytes, ran_indices, sized};
-ghost use Rattle.mal_parcel.specs.{Owned.{owned}, Parcelled.{IsReadBack}, Replaying.{IsNext, IsReplayed, IsToWake, found_machine, found_placed, machine_of}, Taking.{Takes}};
+ghost use Rattle.std.specs.Prelude.{◌≡◌, All, take, Some, IfOk, OnOk};
+ghost use Rattle.spec_job.specs.{Lawful.{IsLawful}, SoloMachine.{solo}, Viewed.{unstarted}};
+ghost use Rattle.spec_parcel.specs.Packed.{parcel_bytes, ran_indices};
+ghost use Rattle.mal_parcel.specs.{Owned.{owned}, Parcelled.{IsReadBack}, Replaying.{IsNext, IsReplayed, IsToWake}, Taking.{Takes, behind_magic, behind_node, behind_texts, machine_at, machine_in}};
 
 use crate::following::again;
 use crate::owned::OwnEvent;
 use crate::parcel::Parcel;
-use crate::passing::{behind_nodes, behind_number, behind_slices};
+use crate::passing::{behind_nodes, behind_number, behind_slices, take_placed};
 use crate::sized::{take_number, take_sized};
 use mal_base::Name;
 use mal_job::Job;
@@ -128,8 +126,7 @@ fn wake(alloc: Global, job: &mut Job, count: u64, nodes: &[u8]) -> Result<(), Al
 fn wake_next<'a>(alloc: Global, job: &mut Job, nodes: &'a [u8]) -> Result<&'a [u8], AllocError>
     requires { IsNext job.old.titled.state nodes.now }
     ensures same { job.new ≡ job.old }
-    ensures rest { (i : ℕ) (more : List ℕ) → i ≤ 63 → nodes.now ≡ node_bytes job.old.titled.state i ++ more
-        → IfOk result (λ r. r.now ≡ more) }
+    ensures rest { IfOk result (λ r. behind_node nodes.now ≡ Some r.now) }
 {
     let Some((index, image, rest)) = take_placed(nodes) else {
         unreachable!();
@@ -139,23 +136,9 @@ fn wake_next<'a>(alloc: Global, job: &mut Job, nodes: &'a [u8]) -> Result<&'a [u
     Ok(rest)
 }
 
-/// The index and the image of the node at the front, and what stands behind them.
-fn take_placed(bytes: &[u8]) -> Option<(u64, &[u8], &[u8])>
-    ensures { (i : ℕ) (image more : List ℕ) → i < 2 ^ 64 → bytes.now ≡ spelled w64 i ++ (sized image ++ more)
-        → Takes (λ x. (x.0, (x.1.now, x.2.now))) result (found_placed i image more) }
-{
-    let (index, rest) = take_number(bytes)?;
-    let (image, rest) = take_sized(rest)?;
-    Some((index, image, rest))
-}
-
 /// The sections of a parcel from its nodes on.
 fn machine_in(bytes: &[u8]) -> Option<Machine<'_>>
-    ensures { (script events : List ℕ) (ps : List Placed) (cs : List Slice) (n : ℕ) (last : List ℕ)
-        → length ps < 2 ^ 64 → length cs < 2 ^ 64
-        → bytes.now ≡ codes "MALPACK1" ++ (sized script ++ (sized events ++ machine_of ps cs (spelled w64 n) last))
-        → Takes (λ m. (m.count, (m.nodes.now, (m.slices.now, m.answers.now)))) result
-        (found_machine ps cs (spelled w64 n) last) }
+    ensures { Takes (λ m. (m.count, (m.nodes.now, (m.slices.now, m.answers.now)))) result (machine_in bytes.now) }
 {
     let rest = behind_texts(bytes)?;
     machine_at(rest)
@@ -163,10 +146,7 @@ fn machine_in(bytes: &[u8]) -> Option<Machine<'_>>
 
 /// The sections from the nodes on, which stand at the front.
 fn machine_at(bytes: &[u8]) -> Option<Machine<'_>>
-    ensures { (ps : List Placed) (cs : List Slice) (n : ℕ) (last : List ℕ) → length ps < 2 ^ 64 → length cs < 2 ^ 64
-        → bytes.now ≡ machine_of ps cs (spelled w64 n) last
-        → Takes (λ m. (m.count, (m.nodes.now, (m.slices.now, m.answers.now)))) result
-        (found_machine ps cs (spelled w64 n) last) }
+    ensures { Takes (λ m. (m.count, (m.nodes.now, (m.slices.now, m.answers.now)))) result (machine_at bytes.now) }
 {
     let (count, nodes) = take_number(bytes)?;
     let rest = behind_nodes(count, nodes)?;
@@ -183,8 +163,7 @@ fn machine_at(bytes: &[u8]) -> Option<Machine<'_>>
 
 /// What stands behind the magic word, the script and the own events.
 fn behind_texts(bytes: &[u8]) -> Option<&[u8]>
-    ensures { (script events more : List ℕ) → bytes.now ≡ codes "MALPACK1" ++ (sized script ++ (sized events ++ more))
-        → Takes (λ x. x.now) result (Some more) }
+    ensures { Takes (λ x. x.now) result (behind_texts bytes.now) }
 {
     let rest = behind_magic(bytes)?;
     let (_, rest) = take_sized(rest)?;
@@ -194,7 +173,7 @@ fn behind_texts(bytes: &[u8]) -> Option<&[u8]>
 
 /// What stands behind the magic word.
 fn behind_magic(bytes: &[u8]) -> Option<&[u8]>
-    ensures { (more : List ℕ) → bytes.now ≡ codes "MALPACK1" ++ more → Takes (λ x. x.now) result (Some more) }
+    ensures { Takes (λ x. x.now) result (behind_magic bytes.now) }
 {
     match bytes {
         [b'M', b'A', b'L', b'P', b'A', b'C', b'K', b'1', rest @ ..] => Some(rest),

@@ -1,6 +1,6 @@
-use Rattle.std.proofs.Common.{◌≡◌, ℕ, ◌++◌, List, drop, flat_map, length}
-use Rattle.spec_parcel.specs.Packed.{Placed, placed_bytes}
+use Rattle.std.proofs.Common.{◌≡◌, ◌-◌}
+use Rattle.mal_parcel.specs.Taking.{behind_each, behind_node}
 use Rattle.mal_parcel.proofs.passing.behind_nodes.Given as goal
 
 abbrev pub invariant-loop : goal.invariant-loop
-invariant-loop l = (ps : List Placed) (more : List ℕ) → length ps ≡ l.count → l.bytes ≡ flat_map placed_bytes ps ++ more → l.rest ≡ flat_map placed_bytes (drop l.counter ps) ++ more
+invariant-loop l = behind_each behind_node (l.count - l.counter) l.rest ≡ behind_each behind_node l.count l.bytes
