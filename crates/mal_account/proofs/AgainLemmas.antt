@@ -9,7 +9,7 @@ use Rattle.spec_text.specs.Lines.{line_of, text_of, IsRow, AreRows}
 use Rattle.spec_dimacs.specs.Rows as dimacs
 use Rattle.spec_dimacs.specs.Written.{closed_words, clause_words}
 use Rattle.spec_dimacs.proofs.Again.{rows_again}
-use Rattle.spec_script.specs.Limits.{served}
+use Rattle.mal_base.specs.Limits.{limits}
 use Rattle.spec_script.specs.Reading as script
 use Rattle.spec_script.specs.Script.{ScriptedJob, revision_rows, step_rows, job_rows, rows_of, spelling}
 use Rattle.spec_script.specs.declared.step.Step.{Step}
@@ -78,13 +78,13 @@ pub written-is-read : WrittenIsRead
 unfolding spelling history_text
 written-is-read s workers events is h =
     let told : List (List (List ℕ)) = header_words (version_of events) workers ∷ map event_words events in
-    let script_lines : dimacs.rows_of (spelling s) ≡ rows_of s = rows_again (rows_of s) (all (rows_of s) (jobs-stand served [] s.jobs is)) in
+    let script_lines : dimacs.rows_of (spelling s) ≡ rows_of s = rows_again (rows_of s) (all (rows_of s) (jobs-stand limits [] s.jobs is)) in
     let told_lines : dimacs.rows_of (history_text workers events) ≡ told = rows_again told (histories.history-rows workers events h) in
     rows-read (spelling s ++ (codes "history\n" ++ history_text workers events)) (rows_of s) told (codes "history" ∷ []) (record { script = s; history = written_read workers events })
-    (lines-again (rows_of s) told (jobs-stand served [] s.jobs is) (histories.history-rows workers events h))
+    (lines-again (rows_of s) told (jobs-stand limits [] s.jobs is) (histories.history-rows workers events h))
     (jobs-none s.jobs)
     refl
-    (ap (λ (rs : List (List (List ℕ))). script.read_rows served rs 0 script.unread) (sym script_lines) ∙ written-read served s is)
+    (ap (λ (rs : List (List (List ℕ))). script.read_rows limits rs 0 script.unread) (sym script_lines) ∙ written-read limits s is)
     (ap history.read_rows (sym told_lines) ∙ histories.written-read workers events h)
   where
     all : (rows : List (List (List ℕ))) → AllByRecursion Stands rows → AreRows rows

@@ -9,7 +9,7 @@ use Rattle.spec_text.specs.Inputs.{lines_of, words_of}
 use Rattle.spec_text.specs.Faults.{Fails}
 use Rattle.spec_dimacs.specs.Rows.{rows_of}
 use Rattle.mal_base.specs.declared.line_fault.LineFault.{LineFault}
-use Rattle.spec_script.specs.Limits.{served}
+use Rattle.mal_base.specs.Limits.{limits}
 use Rattle.spec_script.specs.Formed.{IsScript}
 use Rattle.spec_script.specs.Script.{Scripted, spelling}
 use Rattle.mal_script.specs.declared.fault.ScriptFault.{ScriptFault}
@@ -105,7 +105,7 @@ only-spelled text (Ok x) h a s = ok-is (seen x) a (sym h ∙ (spelled-is-read te
 only-spelled text (Err e) h a s = no-fault (fault_of e) (read_text text) a ((spelled-is-read text a).0 s) h
 
 -- what is written is read again
-pub again-read : (text : List ℕ) (r : Result Account AccountFault) → Gives seen r (read_text text) → (s : Scripted) (workers : ℕ) (events : List Event) → IsScript served s → IsHistory workers events → text ≡ spelling s ++ (codes "history\n" ++ history_text workers events)
+pub again-read : (text : List ℕ) (r : Result Account AccountFault) → Gives seen r (read_text text) → (s : Scripted) (workers : ℕ) (events : List Event) → IsScript limits s → IsHistory workers events → text ≡ spelling s ++ (codes "history\n" ++ history_text workers events)
     → MatchResult r (λ a. (a.script ≡ s) × (a.history.workers ≡ workers) × (a.history.events ≡ events)) (λ e. fault_of e ≡ None)
 again-read text (Ok a) h s workers events is his t =
     let same : seen a ≡ record { script = s; history = written_read workers events } = ok-is (seen a) (record { script = s; history = written_read workers events }) (sym h ∙ (ap read_text t ∙ written-is-read s workers events is his)) in

@@ -5,7 +5,7 @@ use Rattle.spec_text.specs.Inputs.{is_word_line}
 use Rattle.spec_dimacs.specs.Rows.{rows_of}
 use Rattle.spec_dimacs.specs.Reading.{◌>>=◌}
 use Rattle.mal_base.specs.declared.line_fault.LineFault.{LineFault}
-use Rattle.spec_script.specs.Limits.{served}
+use Rattle.mal_base.specs.Limits.{limits}
 use Rattle.spec_script.specs.Script.{Scripted}
 use Rattle.spec_script.specs.Reading as script
 use Rattle.mal_history.specs.Reading as history
@@ -48,7 +48,7 @@ in_history (Err (line, fault)) = Err (InHistory line fault)
 -- the account of the lines of a text, of which one says `history`
 abbrev pub read_lines : List (List (List ℕ)) → Result Account Fault
 read_lines rows =
-    in_script (script.read_rows served (script_rows rows) 0 script.unread)
+    in_script (script.read_rows limits (script_rows rows) 0 script.unread)
     >>= λ s. in_history (history.read_rows (history_rows rows))
     >>= λ h. Ok (record { script = s; history = h })
 

@@ -2,7 +2,7 @@
 use Rattle.std.specs.Prelude.{◌≡◌, ℕ, false, List, [], ◌∷◌, ◌++◌, codes}
 use Rattle.std.specs.List.{list_any}
 use Rattle.spec_dimacs.specs.Rows.{rows_of}
-use Rattle.spec_script.specs.Limits.{served}
+use Rattle.mal_base.specs.Limits.{limits}
 use Rattle.spec_script.specs.Grammar as script
 use Rattle.mal_history.specs.Grammar as history
 use Rattle.mal_account.specs.Accounts.{Account, is_history_line}
@@ -14,5 +14,5 @@ pub record Spells (text : List ℕ) (a : Account) : Type 0 where
   pub last : List ℕ
   pub rows : rows_of text ≡ rows_of first ++ (codes "history" ∷ []) ∷ rows_of last
   pub inside : list_any is_history_line (rows_of first) ≡ false
-  pub script : script.Spells served first a.script
+  pub script : script.Spells limits first a.script
   pub history : history.Spells last a.history

@@ -20,19 +20,19 @@ use Rattle.mal_account.specs.declared.fault.AccountFault.TheVariants as answer
 abbrev pub seen : Account → account.Account
 seen a = record { script = a.script; history = history_given.seen a.history }
 
--- the fault of a script's line, none for want of memory
+-- the fault of a script's line, none when out of memory
 abbrev pub in_script : ScriptFault → Option account.Fault
 in_script (script.Line n fault) = Some (InScript n fault)
 in_script script.OutOfMemory = None
 
--- the fault of a history's line, none for want of memory
+-- the fault of a history's line, none when out of memory
 abbrev pub in_history : HistoryFault → Option account.Fault
 in_history (history.BadLine n) = Some (InHistory n reading.Fault.BadLine)
 in_history (history.BadNumber n) = Some (InHistory n reading.Fault.BadNumber)
 in_history (history.TooLong n) = Some (InHistory n reading.Fault.TooLong)
 in_history history.OutOfMemory = None
 
--- the fault of a text, none for want of memory
+-- the fault of a text, none when out of memory
 abbrev pub fault_of : AccountFault → Option account.Fault
 fault_of answer.NoHistory = Some NoHistory
 fault_of (answer.Script fault) = in_script fault

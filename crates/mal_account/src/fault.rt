@@ -3,7 +3,7 @@
 use mal_history::HistoryFault;
 use mal_script::ScriptFault;
 
-/// Why a text is no account: its first fault, or want of memory.
+/// Why a text is no account: its first fault, or out of memory.
 #[derive(Clone, Copy, Debug, Drop)]
 pub enum AccountFault {
     /// No line is the one word `history`.

@@ -19,7 +19,7 @@ pub fn written_is_read()
     ensures { WrittenIsRead }
 {}
 
-/// Nothing behind a faulty line counts, whether it is of the script or of the history.
+/// Nothing after a faulty line counts, whether it is of the script or of the history.
 pub fn nothing_behind_counts()
     ensures stays { ScriptFaultStays }
     ensures first { ScriptFaultIsFirst }

@@ -2,7 +2,8 @@
 
 ghost use Rattle.std.specs.Prelude.{◌≡◌, ℕ, List, ◌++◌, false, None, codes, IfOk, MatchResult};
 ghost use Rattle.spec_dimacs.specs.Rows.{rows_of};
-ghost use Rattle.spec_script.specs.{Limits.{served}, Formed.{IsScript}, Script.{Scripted, spelling}};
+ghost use Rattle.mal_base.specs.Limits.{limits};
+ghost use Rattle.spec_script.specs.{Formed.{IsScript}, Script.{Scripted, spelling}};
 ghost use Rattle.spec_script.specs.Reading as script;
 ghost use Rattle.mal_history.specs.{declared.event.Event.{Event}, Formed.{IsHistory}, Text.{history_text}};
 ghost use Rattle.mal_history.specs.ReadResult as history_given;
@@ -32,7 +33,7 @@ pub fn read(alloc: Global, text: &[u8]) -> Result<Account, AccountFault>
     ensures only { (a : spelled.Account) → Spells text.now a
         → MatchResult result (λ x. seen x ≡ a) (λ e. fault_of e ≡ None) }
     // The texts of a script and of a history in form, with the line `history` between them, are read as these.
-    ensures again { (s : Scripted) (workers : ℕ) (events : List Event) → IsScript served s → IsHistory workers events
+    ensures again { (s : Scripted) (workers : ℕ) (events : List Event) → IsScript limits s → IsHistory workers events
         → text.now ≡ spelling s ++ (codes "history\n" ++ history_text workers events)
         → MatchResult result (λ a. (a.script ≡ s) × (a.history.workers ≡ workers) × (a.history.events ≡ events))
         (λ e. fault_of e ≡ None) }
@@ -71,7 +72,7 @@ fn cut(text: &[u8]) -> Option<(&[u8], &[u8])>
 /// The script of the text before the line `history`.
 #[tactic(auto, using(crate::proofs::Parts::fault_lemmas))]
 fn read_script(alloc: Global, text: &[u8]) -> Result<Script, AccountFault>
-    ensures { Gives (λ s. s) result (in_script (script.read_text served text.now)) }
+    ensures { Gives (λ s. s) result (in_script (script.read_text limits text.now)) }
 {
     match mal_script::read(alloc, text) {
         Ok(script) => Ok(script),

@@ -13,7 +13,7 @@ use mal_text::put_line;
 use std::alloc::{AllocError, Global};
 
 /// The line that tells a fault of a text, as `fault: no history`, `fault: script line 3 Range` or
-/// `fault: history line 1 BadNumber`, with its line end. None exactly for want of memory.
+/// `fault: history line 1 BadNumber`, with its line end. None exactly when out of memory.
 pub fn fault_line(alloc: Global, fault: AccountFault) -> Result<Option<Vec<u8>>, AllocError>
     ensures { IfOk result
         (λ o. MatchOption o (fault_of fault ≡ None) (λ text. TellsBy fault_line (fault_of fault) text.items)) }
@@ -33,7 +33,7 @@ fn no_history(alloc: Global) -> Result<Vec<u8>, AllocError>
     Vec::from_slice(alloc, b"fault: no history\n")
 }
 
-/// The line that tells a fault of the script; none for want of memory.
+/// The line that tells a fault of the script; none when out of memory.
 fn script_line(alloc: Global, fault: ScriptFault) -> Result<Option<Vec<u8>>, AllocError>
     ensures { IfOk result
         (λ o. MatchOption o (in_script fault ≡ None) (λ text. TellsBy fault_line (in_script fault) text.items)) }
@@ -41,7 +41,7 @@ fn script_line(alloc: Global, fault: ScriptFault) -> Result<Option<Vec<u8>>, All
     mal_script::fault_line(alloc, fault)
 }
 
-/// The line that tells a fault of the history; none for want of memory.
+/// The line that tells a fault of the history; none when out of memory.
 fn history_line(alloc: Global, fault: HistoryFault) -> Result<Option<Vec<u8>>, AllocError>
     ensures { IfOk result
         (λ o. MatchOption o (in_history fault ≡ None) (λ text. TellsBy fault_line (in_history fault) text.items)) }

@@ -7,7 +7,7 @@ use Rattle.mal_core.proofs.InputLemmas.{spelled_read as core-read}
 use Rattle.mal_max.proofs.InputLemmas.{spelled_read as max-read}
 use Rattle.spec_json.proofs.Reading.{spelled-is-read as json-read}
 use Rattle.spec_script.proofs.Reading.{spelled-read as script-read}
-use Rattle.spec_script.specs.Limits.{served}
+use Rattle.mal_base.specs.Limits.{limits}
 use Rattle.spec_text.specs.Faults.{Fails, TellsBy}
 use Rattle.mal_answer.specs.Answers.{Complains, IsAnswerTo, NoLine}
 use Rattle.mal_answer.specs.Command.{Command, Denies, Grammar, IsLawful, IsRead, Refuses, TellsFaultOf, judging, making, reading}
@@ -50,7 +50,7 @@ making-lawful words Answers = record {
 
 -- what texts spell is what reading them gives
 pub scripts-read : IsRead scripts
-scripts-read text s is = script-read served text s is
+scripts-read text s is = script-read limits text s is
 
 pub claims-read : IsRead claims
 claims-read text c is = (claim-read text c).0 is
@@ -59,7 +59,7 @@ pub accounts-read : IsRead accounts
 accounts-read text a is = (account-read text a).0 is
 
 pub descriptions-read : IsRead descriptions
-descriptions-read text s is = (json-read served text s).0 is
+descriptions-read text s is = (json-read limits text s).0 is
 
 pub max_inputs-read : IsRead max_inputs
 max_inputs-read text w is = (max-read text w).0 is

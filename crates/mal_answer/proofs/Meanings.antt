@@ -2,6 +2,7 @@
 use Rattle.std.proofs.Common.{◌≡◌, ℕ, ◌≤◌, Bool, true, false, List, [], ◌∷◌, codes, inl, inr, refl, sym, ap, ◌∙◌, subst, arith}
 use Rattle.std.specs.Prelude.{bytes_eq, cond, Option, Some, None, IfSome, option_map}
 use Rattle.std.proofs.lemmas.Slice.Eq.{bytes_eq-Decides}
+use Rattle.mal_base.specs.Limits.{limits}
 use Rattle.clap.proofs.OnLiterals.{clap_on_literals}
 use Rattle.clap.proofs.WalkLemmas.{first_value-rows}
 use Rattle.clap.specs.Words.{App, HasKind, IsAmong, Kinds, Row, Text, fault_of, first_of, is_simple, is_simple_and_free, kind_of, subcommand_of}
@@ -50,12 +51,12 @@ run-asks rows r e =
 max-asks : (rows : List Row) (r : Request) → max_form.asks rows ≡ Some r → Asks (codes "max") rows r
 max-asks rows r e =
     let m = mapped (λ n. Max n) (slices_in rows) r e in
-    subst (λ (q : Request). Asks (codes "max") rows q) m.2 (refl, is-value 1 4096 m.0 (first_of (codes "slices") rows) m.1)
+    subst (λ (q : Request). Asks (codes "max") rows q) m.2 (refl, is-value 1 limits.slices m.0 (first_of (codes "slices") rows) m.1)
 
 core-asks : (rows : List Row) (r : Request) → core_form.asks rows ≡ Some r → Asks (codes "core") rows r
 core-asks rows r e =
     let m = mapped (λ n. Core n) (slices_in rows) r e in
-    subst (λ (q : Request). Asks (codes "core") rows q) m.2 (refl, is-value 1 4096 m.0 (first_of (codes "slices") rows) m.1)
+    subst (λ (q : Request). Asks (codes "core") rows q) m.2 (refl, is-value 1 limits.slices m.0 (first_of (codes "slices") rows) m.1)
 
 gen-asks : (rows : List Row) (r : Request) (seed jobs : Option ℕ) (word : Option Text) → number_in 0 2147483647 (first_of (codes "seed") rows) ≡ seed → number_in 1 256 (first_of (codes "jobs") rows) ≡ jobs → first_of (codes "workers") rows ≡ word → generate_of seed jobs word ≡ Some r → Asks (codes "gen") rows r
 gen-asks rows r None jobs word s j w e = cc
@@ -134,10 +135,10 @@ cluster-words h w k name rows a =
     (a.0, clusters rows (Cluster h w k) (Some h) (Some w) (Some k) (value-is 2 8 h _ (omega arith) a.1) (value-is 1 64 w _ (omega arith) a.2) (value-is 1 1000 k _ (omega arith) a.3) refl)
 
 pub max-words : (n : ℕ) → IsAskedBy max_form (Max n)
-max-words n name rows a = (a.0, ap (λ (o : Option ℕ). option_map (λ m. Max m) o) (value-is 1 4096 n (first_of (codes "slices") rows) (omega arith) a.1))
+max-words n name rows a = (a.0, ap (λ (o : Option ℕ). option_map (λ m. Max m) o) (value-is 1 limits.slices n (first_of (codes "slices") rows) (omega arith) a.1))
 
 pub core-words : (n : ℕ) → IsAskedBy core_form (Core n)
-core-words n name rows a = (a.0, ap (λ (o : Option ℕ). option_map (λ m. Core m) o) (value-is 1 4096 n (first_of (codes "slices") rows) (omega arith) a.1))
+core-words n name rows a = (a.0, ap (λ (o : Option ℕ). option_map (λ m. Core m) o) (value-is 1 limits.slices n (first_of (codes "slices") rows) (omega arith) a.1))
 
 asks-asked : (name : Text) (rows : List Row) (r : Request) → Asks name rows r → asked name rows ≡ Some r
 asks-asked name rows (Run w) a = let own = run-words w name rows a in as-named name (codes "run") rows (Run w) own.0 own.1
@@ -198,8 +199,8 @@ asks-request name rows (RunGenerated seed jobs workers) a =
 asks-request name rows Json a = tt
 asks-request name rows (Cluster halls workers every) a =
     let h = in-range 2 8 halls _ a.1 in let w = in-range 1 64 workers _ a.2 in let k = in-range 1 1000 every _ a.3 in (h.0, h.1, w.0, w.1, k.0, k.1)
-asks-request name rows (Max slices) a = in-range 1 4096 slices _ a.1
-asks-request name rows (Core slices) a = in-range 1 4096 slices _ a.1
+asks-request name rows (Max slices) a = in-range 1 limits.slices slices _ a.1
+asks-request name rows (Core slices) a = in-range 1 limits.slices slices _ a.1
 
 pub means-request : (words : List Text) (o : Option Request) → IsMeaning o words → IfSome o (λ r. IsRequest r)
 means-request words None m = tt

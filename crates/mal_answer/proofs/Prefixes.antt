@@ -1,4 +1,4 @@
--- Texts that are written one behind the other.
+-- Texts that are written one after the other.
 use Rattle.std.proofs.Common.{◌≡◌, ℕ, suc, ◌<◌, List, ◌∷◌, ◌++◌, ◌∙◌, ap, append_assoc, drop, drop-cons, flat_map, get_or, length, sym, take, take-append-drop}
 use Rattle.std.specs.Prelude.{Option}
 use Rattle.std.specs.Io.KnownBytes.{Appends}
@@ -6,7 +6,7 @@ use Rattle.std.proofs.KnownBytes.{Appends-trans}
 use Rattle.std.proofs.lemmas.Grind.{flat_map-append}
 use Rattle.mal_io.specs.Moves.{GotPrefix}
 
--- behind the texts before it, a prefix of a text is a prefix of them all
+-- after the texts before it, a prefix of a text is a prefix of them all
 pub prefix-behind : {A : Type 0} (f : A → List ℕ) (xs : List A) (i : ℕ) (x d : A) (got mid now : Option (List ℕ)) → i < length xs → x ≡ get_or xs i d → Appends got mid (flat_map f (take i xs)) → (prefix : List ℕ) × GotPrefix mid now (f x) prefix → (prefix : List ℕ) × GotPrefix got now (flat_map f xs) prefix
 prefix-behind {A} f xs i x d got mid now low is gained p = (before ++ p.0, record { gained = Appends-trans got mid now before p.0 gained p.1.gained; split = (p.1.split.0 ++ behind, whole) })
   where

@@ -15,11 +15,14 @@ use Rattle.spec_job.specs.KeyedJob.{Key}
 use Rattle.spec_job.specs.Replies.{body_of}
 use Rattle.spec_job.specs.SoloMachine.{SoloMachine, solo}
 use Rattle.spec_lrat.specs.Written.{words_of_ids, words_of_lits}
-use Rattle.spec_report.specs.Replies.{ReplyBody, Model, Proof, AllSpent, AllStarved, head_words, model_words, profile_words, proof_row, reply_text, told_rows}
+use Rattle.mal_base.specs.declared.profile.Profile.{Profile}
+use Rattle.mal_base.specs.declared.profile.Profile.TheVariants.{Plain, Lean}
+use Rattle.spec_text.specs.Asks.{profile_words}
+use Rattle.spec_report.specs.Replies.{ReplyBody, Model, Proof, AllSpent, AllStarved, head_words, model_words, proof_row, reply_text, told_rows}
 use Rattle.spec_run.specs.Complete.{key_of_job}
 use Rattle.spec_run.specs.Run.{job_replies, replies, replies_from, text_or_none}
 use Rattle.spec_script.specs.Formed.{IsScript, MayAllFollow}
-use Rattle.spec_script.specs.Limits.{served}
+use Rattle.mal_base.specs.Limits.{limits}
 use Rattle.spec_script.specs.Script.{ScriptedJob, Scripted, revisions}
 use Rattle.spec_text.specs.Inputs.{lines_of}
 use Rattle.spec_text.specs.Lines.{AreClean, AreRows, IsClean, IsRow, text_of}
@@ -43,12 +46,12 @@ word-clean word some h = (ltb-true 0 (length word) some, bytes-clean word h)
 zero-clean : IsClean (codes "0")
 zero-clean = word-clean (codes "0") refl refl
 
--- lists of words one behind the other
+-- lists of words one after the other
 both-clean : (xs ys : List (List ℕ)) → AreClean xs → AreClean ys → AreClean (xs ++ ys)
 both-clean [] ys h k = k
 both-clean (x ∷ xs) ys h k = (h.0, both-clean xs ys h.1 k)
 
--- the words of numbers with the word 0 behind them
+-- the words of numbers with the word 0 after them
 closed-clean : (word : ℕ → List ℕ) → ((n : ℕ) → IsClean (word n)) → (ns : List ℕ) → AreClean (map word ns ++ codes "0" ∷ [])
 closed-clean word each [] = (zero-clean, tt)
 closed-clean word each (n ∷ ns) = (each n, closed-clean word each ns)
@@ -57,7 +60,7 @@ model-clean : (var : ℕ) (values : List Bool) → AreClean (model_words var val
 model-clean var [] = (zero-clean, tt)
 model-clean var (b ∷ bs) = (literals_are_clean (literal var b), model-clean (var + 1) bs)
 
--- the words of the rows of what is told, behind the first of each
+-- the words of the rows of what is told, after the first of each
 abbrev line_words : Line → List (List ℕ)
 line_words l = decimal_word l.id ∷ (words_of_lits l.lits ++ words_of_ids l.hints)
 
@@ -100,12 +103,9 @@ told-rows (AllSpent n) =
 told-rows AllStarved =
     (unknown-row, (row-of (codes "u") starved_words (word-clean (codes "u") refl refl) (word-clean (codes "starved") refl refl, (word-clean (codes "3") refl refl, tt)), tt))
 
-profile-clean : (profile : ℕ) → AreClean (profile_words profile)
-profile-clean profile = by-test (profile == 2)
-  where
-    by-test : (b : Bool) → AreClean (cond b (codes "2" ∷ []) [])
-    by-test true = (word-clean (codes "2") refl refl, tt)
-    by-test false = tt
+profile-clean : (profile : Profile) → AreClean (profile_words profile)
+profile-clean Plain = tt
+profile-clean Lean = (decimals_are_clean 2, tt)
 
 -- the lines of a text before another text
 lines-before : (rows : List (List (List ℕ))) (rest : List ℕ) → AreRows rows → lines_of (text_of rows ++ rest) ≡ map (join_with_byte 32) rows ++ lines_of rest
@@ -170,7 +170,7 @@ told-counted word (Proof failed lines) =
 told-counted word (AllSpent n) = kind-counted word (codes "UNKNOWN") ((codes "u" ∷ spent_words n) ∷ []) (other-passed (32 ∷ word) [] 117 (spent_words n) [] refl)
 told-counted word AllStarved = kind-counted word (codes "UNKNOWN") ((codes "u" ∷ starved_words) ∷ []) (other-passed (32 ∷ word) [] 117 starved_words [] refl)
 
-reply-counted : (word tenant job : List ℕ) (r profile : ℕ) (told : ReplyBody) (rest : List ℕ) → is_name tenant ≡ true → is_name job ≡ true → lines_that_are (line_for word) (reply_text tenant job r profile told ++ rest) ≡ one_if word told + lines_that_are (line_for word) rest
+reply-counted : (word tenant job : List ℕ) (r : ℕ) (profile : Profile) (told : ReplyBody) (rest : List ℕ) → is_name tenant ≡ true → is_name job ≡ true → lines_that_are (line_for word) (reply_text tenant job r profile told ++ rest) ≡ one_if word told + lines_that_are (line_for word) rest
 unfolding reply_text head_words
 reply-counted word tenant job r profile told rest h k =
     let head : List (List ℕ) = tenant ∷ job ∷ decimal_word r ∷ profile_words profile in
@@ -229,7 +229,7 @@ from-counted word is kind k h i r s (p ∷ ps) rest = by-answer (body_of r s) (f
         ∙ ap (λ (n : ℕ). n + lines_that_are (line_for word) rest) (sym (sum_by-cons (λ (x : ReplyBody). cond (is x) 1 0) told (told_from (r + 1) s ps)))
 
 -- those to the jobs of a script
-jobs-counted : (word : List ℕ) (is : ReplyBody → Bool) → IsKind word is → (history : List Event) (before js : List ScriptedJob) → MayAllFollow served before js → lines_that_are (line_for word) (flat_map (job_replies history) js) ≡ count_by is (flat_map (told_to history) js)
+jobs-counted : (word : List ℕ) (is : ReplyBody → Bool) → IsKind word is → (history : List Event) (before js : List ScriptedJob) → MayAllFollow limits before js → lines_that_are (line_for word) (flat_map (job_replies history) js) ≡ count_by is (flat_map (told_to history) js)
 jobs-counted word is kind history before [] h = refl
 jobs-counted word is kind history before (j ∷ js) h =
     ap (λ (text : List ℕ). lines_that_are (line_for word) text) (flat_map-cons (job_replies history) j js)
@@ -265,7 +265,7 @@ replies-counted s history formed = record {
 }
 
 -- so the summary of the text is that of the replies
-pub summaries-agree : (jobs : ℕ) (s : Scripted) (history : List Event) → IsScript served s → lines_summary jobs (replies s history) ≡ summary_line jobs (all_told s history)
+pub summaries-agree : (jobs : ℕ) (s : Scripted) (history : List Event) → IsScript limits s → lines_summary jobs (replies s history) ≡ summary_line jobs (all_told s history)
 unfolding lines_summary summary_line
 summaries-agree jobs s history formed =
     let counted : AreCounted (replies s history) (all_told s history) = replies-counted s history formed in

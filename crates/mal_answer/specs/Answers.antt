@@ -19,7 +19,7 @@ use Rattle.spec_hall.specs.Events.{bare}
 abbrev pub hall_text : HallView → List ℕ
 hall_text hall = history_text hall.workers (map bare hall.events)
 
--- the text of histories, one behind the other
+-- the text of histories, one after the other
 abbrev pub logged : List HallView → List ℕ
 logged halls = flat_map hall_text halls
 

@@ -49,7 +49,7 @@ use Rattle.spec_run.specs.Run.{IsRun, job_replies}
 use Rattle.mal_base.specs.declared.line_fault.LineFault.{LineFault}
 use Rattle.spec_script.specs.FaultLines.{fault_line}
 use Rattle.spec_script.specs.Grammar.{Spells}
-use Rattle.spec_script.specs.Limits.{served}
+use Rattle.mal_base.specs.Limits.{limits}
 use Rattle.spec_script.specs.Reading.{read_text}
 use Rattle.spec_script.specs.Script.{ScriptedJob, Scripted, spelling}
 use Rattle.spec_text.specs.Lines.{line_of}
@@ -76,7 +76,7 @@ abbrev pub StopsSomewhere : Stops → Type 0
 StopsSomewhere stops = (after : Bool) × (start worker : ℕ) × (stops after start worker ≡ true)
 
 -- a script was run with so many workers, which are stopped there: leases are lost only where some worker is stopped
--- somewhere, and behind the first loss only the first worker starts nodes
+-- somewhere, and after the first loss only the first worker starts nodes
 pub record IsStoppedRunOf (stops : Stops) (workers : ℕ) (s : Scripted) (log out : List ℕ) : Type 0 where
   pub ran : IsRunOf workers s log out
   pub lost : list_any is_loss ran.history ≡ true → StopsSomewhere stops
@@ -117,7 +117,7 @@ pub record Verifies (text : List ℕ) : Type 0 where
 -- the grammars of inputs: scripts, claims, accounts, descriptions, formulas with soft literals, and formulas with
 -- assumptions
 abbrev pub scripts : Grammar Scripted (ℕ × LineFault)
-scripts = record { Spells = Spells served; read = read_text served; line_of = λ e. fault_line e.0 e.1 }
+scripts = record { Spells = Spells limits; read = read_text limits; line_of = λ e. fault_line e.0 e.1 }
 
 abbrev pub claims : Grammar Claim claim.Fault
 claims = record { Spells = claim_texts.Spells; read = claim.read_text; line_of = claim_lines.fault_line }
@@ -126,7 +126,7 @@ abbrev pub accounts : Grammar Account account.Fault
 accounts = record { Spells = account_texts.Spells; read = account.read_text; line_of = account_lines.fault_line }
 
 abbrev pub descriptions : Grammar Scripted JsonFault
-descriptions = record { Spells = json_texts.Spells served; read = json.read_text served; line_of = json_lines.fault_line }
+descriptions = record { Spells = json_texts.Spells limits; read = json.read_text limits; line_of = json_lines.fault_line }
 
 abbrev pub max_inputs : Grammar spec_max.Instance Fault
 max_inputs = record { Spells = max_texts.Spells; read = max_reading.read_text; line_of = max_lines.fault_line }
@@ -138,7 +138,7 @@ core_inputs = record { Spells = core_texts.Spells; read = core_reading.read_text
 pub record IsWritten (s : Scripted) (log out : List ℕ) : Type 0 where
   pub silent : log ≡ []
   pub written : out ≡ spelling s
-  pub again : read_text served out ≡ Ok s
+  pub again : read_text limits out ≡ Ok s
 
 -- an optimum that a search finds for an instance is written, each question of which may spend so many slices
 pub record IsOptimized (slices : ℕ) (w : spec_max.Instance) (log out : List ℕ) : Type 0 where
@@ -154,8 +154,8 @@ pub record IsMinimized (slices : ℕ) (w : spec_core.Instance) (log out : List �
   pub silent : log ≡ []
   pub written : out ≡ minimal_text minimal
 
--- each job of a script that always asks for one worker gets in a cluster the replies of every run of the script in one hall,
--- where no start of it wanted for memory in either
+-- each job of a script that always asks for one worker gets in a cluster the replies of every run of the script in one
+-- hall, where no start of it ran out of memory in either
 abbrev pub SinglesAreAlike : Scripted → Cluster → Type 0
 SinglesAreAlike s end =
     (others i : ℕ) (j : ScriptedJob) (history : List Event) (log out : List ℕ) → IsRun others s history log out → slice_get s.jobs i ≡ Some j → is_for_one j ≡ true

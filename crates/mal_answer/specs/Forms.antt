@@ -2,6 +2,7 @@
 -- the line of usage and what words ask for are made.
 use Rattle.std.specs.Prelude.{ℕ, Bool, true, false, ◌&&◌, nat_le, List, [], ◌∷◌, codes, decimal, bytes_eq, if◌then◌else◌, Option, Some, None, option_map, option_and_then}
 use Rattle.std.specs.Str.Parse.{digits_value}
+use Rattle.mal_base.specs.Limits.{limits}
 use Rattle.clap.specs.Walk.{Row, Text, first_of}
 use Rattle.mal_answer.specs.declared.words.request.Request.{Request}
 use Rattle.mal_answer.specs.declared.words.request.Request.TheVariants.{Run, Check, Replay, Generate, RunGenerated, Json, Cluster, Max, Core}
@@ -80,7 +81,7 @@ cluster_form = record {
 
 -- the value of the option `slices`
 abbrev pub slices_in : List Row → Option ℕ
-slices_in rows = number_in 1 4096 (first_of (codes "slices") rows)
+slices_in rows = number_in 1 limits.slices (first_of (codes "slices") rows)
 
 abbrev pub max_form : Form
 max_form = record {

@@ -7,7 +7,7 @@ use Rattle.mal_answer.specs.Requests.{IsAskedBy}
 use Rattle.mal_answer.specs.declared.words.request.Request.{Request}
 use Rattle.spec_run.specs.Losses.{NoneIsLost}
 use Rattle.spec_script.specs.Formed.{IsScript}
-use Rattle.spec_script.specs.Limits.{served}
+use Rattle.mal_base.specs.Limits.{limits}
 use Rattle.spec_script.specs.Script.{Scripted, spelling}
 
 -- what holds of each command holds of all of the program
@@ -22,7 +22,7 @@ HaveOwnWords = (stops : Stops) (r : Request) → IsAskedBy (command_of stops r).
 -- log gives the run's output, unless the history is longer than a text of one may be
 abbrev pub RunReplays : Type 0
 RunReplays =
-    (workers : ℕ) (s : Scripted) (log out : List ℕ) (run : IsRunOf workers s log out) → IsScript served s → 1 ≤ workers → workers ≤ 64
+    (workers : ℕ) (s : Scripted) (log out : List ℕ) (run : IsRunOf workers s log out) → IsScript limits s → 1 ≤ workers → workers ≤ 64
     → length run.history ≤ most_events → replaying.Gives (spelling s ++ (codes "history\n" ++ log)) [] out
 
 -- where no worker is stopped, no lease is lost

@@ -1,5 +1,6 @@
 -- What the program's words ask for.
 use Rattle.std.specs.Prelude.{◌≡◌, ℕ, ◌<◌, ◌≤◌, ◌^◌, List, [], ◌∷◌, bytes_eq, codes, decimal, if◌then◌else◌, Option, Some, None, option_and_then}
+use Rattle.mal_base.specs.Limits.{limits}
 use Rattle.clap.specs.Walk.{Row, Text, first_of}
 use Rattle.mal_answer.specs.CommandLine.{refusals, subcommand}
 use Rattle.mal_answer.specs.Forms.{Form, forms}
@@ -24,8 +25,8 @@ Asks name rows (RunGenerated seed jobs workers) =
 Asks name rows Json = name ≡ codes "json"
 Asks name rows (Cluster halls workers every) =
     (name ≡ codes "cluster") × IsNumber 2 8 halls (first_of (codes "halls") rows) × IsNumber 1 64 workers (first_of (codes "workers") rows) × IsNumber 1 1000 every (first_of (codes "every") rows)
-Asks name rows (Max slices) = (name ≡ codes "max") × IsNumber 1 4096 slices (first_of (codes "slices") rows)
-Asks name rows (Core slices) = (name ≡ codes "core") × IsNumber 1 4096 slices (first_of (codes "slices") rows)
+Asks name rows (Max slices) = (name ≡ codes "max") × IsNumber 1 limits.slices slices (first_of (codes "slices") rows)
+Asks name rows (Core slices) = (name ≡ codes "core") × IsNumber 1 limits.slices slices (first_of (codes "slices") rows)
 
 -- a request is asked for by the words of this command alone
 abbrev pub IsAskedBy : Form → Request → Type 0
@@ -64,5 +65,5 @@ IsRequest (Generate seed jobs) = (seed < 2 ^ 31) × (1 ≤ jobs) × (jobs ≤ 25
 IsRequest (RunGenerated seed jobs workers) = (seed < 2 ^ 31) × (1 ≤ jobs) × (jobs ≤ 256) × (1 ≤ workers) × (workers ≤ 64)
 IsRequest Json = Unit {0}
 IsRequest (Cluster halls workers every) = (2 ≤ halls) × (halls ≤ 8) × (1 ≤ workers) × (workers ≤ 64) × (1 ≤ every) × (every ≤ 1000)
-IsRequest (Max slices) = (1 ≤ slices) × (slices ≤ 4096)
-IsRequest (Core slices) = (1 ≤ slices) × (slices ≤ 4096)
+IsRequest (Max slices) = (1 ≤ slices) × (slices ≤ limits.slices)
+IsRequest (Core slices) = (1 ≤ slices) × (slices ≤ limits.slices)

@@ -9,7 +9,7 @@ use Rattle.spec_report.specs.Replies.{ReplyBody, Model, Proof, AllSpent, AllStar
 use Rattle.spec_run.specs.Complete.{key_of_job}
 use Rattle.spec_run.specs.Run.{replies}
 use Rattle.spec_script.specs.Formed.{IsScript}
-use Rattle.spec_script.specs.Limits.{served}
+use Rattle.mal_base.specs.Limits.{limits}
 use Rattle.spec_script.specs.Script.{ScriptedJob, Scripted, revisions}
 use Rattle.spec_text.specs.Inputs.{lines_of}
 use Rattle.spec_text.specs.Lines.{line_of}
@@ -77,4 +77,4 @@ pub record AreCounted (text : List ℕ) (told : List ReplyBody) : Type 0 where
 
 -- so it is with the replies to a script in form, whatever the history
 abbrev pub RepliesAreCounted : Type 0
-RepliesAreCounted = (s : Scripted) (history : List Event) → IsScript served s → AreCounted (replies s history) (all_told s history)
+RepliesAreCounted = (s : Scripted) (history : List Event) → IsScript limits s → AreCounted (replies s history) (all_told s history)

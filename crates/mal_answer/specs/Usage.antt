@@ -11,6 +11,6 @@ option_usage o = if o.required then codes "--" ++ o.name ++ 32 ∷ o.value else 
 abbrev pub usage_of : Form → Text
 usage_of f = join_with_byte 32 (f.name ∷ map option_usage f.options)
 
--- the commands with their options, behind commas
+-- the commands with their options, after commas
 abbrev pub usage_line : List ℕ
 usage_line = codes "usage: mal" ++ join_with_byte 44 (map (λ f. 32 ∷ usage_of f) forms) ++ 10 ∷ []

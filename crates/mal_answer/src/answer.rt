@@ -2,7 +2,7 @@
 
 use mal_hall::Hall;
 
-/// What a command gives: the halls whose histories go to the log, one behind the other, and the text for the output. The
+/// What a command gives: the halls whose histories go to the log, one after the other, and the text for the output. The
 /// bytes of a history are not made before they are written.
 #[derive(Drop)]
 pub struct Texts {

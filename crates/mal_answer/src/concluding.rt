@@ -83,7 +83,7 @@ fn write_both<K: Sink, L: Sink>(texts: &Texts, out: &mut K, log: &mut L) -> Resu
     write_all(out, texts.out.as_slice())
 }
 
-/// Writes the text for the log, that of each history behind that of the one before it.
+/// Writes the text for the log, that of each history after that of the one before it.
 fn write_log<L: Sink>(log: &mut L, halls: &[Hall]) -> Result<(), WriteFault>
     ensures whole { OnOk result (Gained (device L.got L.faults log.old log.new) (logged halls.now)) }
     ensures prefix { GainedPrefix (device L.got L.faults log.old log.new) (logged halls.now) }

@@ -2,7 +2,8 @@
 
 ghost use Rattle.std.specs.Prelude.{IfOk, IfErr};
 ghost use Rattle.mal_answer.specs.Answers.{IsScriptRefusal, TellsScriptFault};
-ghost use Rattle.spec_script.specs.{Formed.{IsScript}, Grammar.{Spells}, Limits.{served}};
+ghost use Rattle.mal_base.specs.Limits.{limits};
+ghost use Rattle.spec_script.specs.{Formed.{IsScript}, Grammar.{Spells}};
 
 use crate::answer::Complaint;
 use mal_script::{Script, ScriptFault, fault_line, read};
@@ -14,8 +15,8 @@ use std::alloc::Global;
 /// at any time.
 #[tactic(auto, using(crate::proofs::ScriptLemmas::script_lemmas))]
 pub fn script_of(alloc: Global, text: Vec<u8>) -> Result<Script, Complaint>
-    ensures spelled { IfOk result (λ s. Spells served text.items s) }
-    ensures formed { IfOk result (λ s. IsScript served s) }
+    ensures spelled { IfOk result (λ s. Spells limits text.items s) }
+    ensures formed { IfOk result (λ s. IsScript limits s) }
     ensures refused { IfErr result (λ e. IsScriptRefusal text.items e) }
 {
     match read(alloc, text.as_slice()) {

@@ -1,6 +1,7 @@
 //! The balancer: one worker for each of the first jobs, and the rest one by one.
 
 ghost use Rattle.std.specs.Prelude.{◌≡◌, ℕ, ◌*◌, ◌+◌, ◌<◌, ◌≤◌, ◌↔◌, List, length, IsTrue};
+ghost use Rattle.mal_base.specs.Limits.{limits};
 ghost use Rattle.spec_balance.specs.Fair.{priority_at, demand_at, volume_at, IsFair};
 ghost use Rattle.mal_balance.specs.Greedy.{IsGreedy, IsBest, IsNext};
 
@@ -100,7 +101,7 @@ fn has_better_claim(jobs: &[Ask], volumes: &[u32], job: usize, other: usize) -> 
 fn priority_of(jobs: &[Ask], job: usize) -> u32
     requires { job < length jobs.now }
     ensures value { result ≡ priority_at jobs.now job }
-    ensures bound { result ≤ 1000 }
+    ensures bound { result ≤ limits.priority }
 {
     jobs[job].priority()
 }
@@ -110,7 +111,7 @@ fn demand_of(jobs: &[Ask], job: usize) -> u32
     requires { job < length jobs.now }
     ensures value { result ≡ demand_at jobs.now job }
     ensures some { 1 ≤ result }
-    ensures bound { result ≤ 64 }
+    ensures bound { result ≤ limits.demand }
 {
     jobs[job].demand()
 }

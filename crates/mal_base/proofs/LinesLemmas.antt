@@ -5,19 +5,19 @@ use Rattle.std.proofs.Math.Seq.{take-length, drop-append_seam}
 use Rattle.mal_base.specs.declared.line_head.LineHead.{LineHead}
 use Rattle.mal_base.specs.Lined.{line_at, lines_at, IsWithin, AreWithin}
 
--- what stands within a list stands there too when more is put behind it
+-- what stands within a list stands there too when more is put after it
 slice_range-longer : (xs more : List ℕ) (from to : ℕ) → from ≤ to → to ≤ length xs → slice_range (xs ++ more) from to ≡ slice_range xs from to
 slice_range-longer xs more from to forward within =
     let cut : drop from (xs ++ more) ≡ drop from xs ++ more = drop-append-le from xs more (omega arith) in
     rw cut (take-append-le (to - from) (drop from xs) more (omega (arith, length-drop from xs)))
 
--- what is put behind a list stands at its end
+-- what is put after a list stands at its end
 slice_range-behind : (xs more : List ℕ) (from to : ℕ) → from ≡ length xs → to ≡ length xs + length more → slice_range (xs ++ more) from to ≡ more
 slice_range-behind xs more from to starts ends =
     let count : to - from ≡ length more = omega arith in
     rw (count, starts, drop-append_seam xs more) (take-length more)
 
--- the lines are the same when more literals and hints are put behind theirs
+-- the lines are the same when more literals and hints are put after theirs
 lines-longer : (lits hints more others : List ℕ) (heads : List LineHead) → AreWithin lits hints heads → lines_at (lits ++ more) (hints ++ others) heads ≡ lines_at lits hints heads
 lines-longer lits hints more others [] within = refl
 lines-longer lits hints more others (e ∷ es) within =
@@ -27,7 +27,7 @@ lines-longer lits hints more others (e ∷ es) within =
     let b : slice_range (hints ++ others) e.hints.start e.hints.end ≡ slice_range hints e.hints.start e.hints.end = slice_range-longer hints others e.hints.start e.hints.end here.hints_within.forward here.hints_within.within in
     cc (rest, a, b)
 
--- a line put behind the others
+-- a line put after the others
 pub lines-push : (lits hints more others : List ℕ) (heads : List LineHead) (e : LineHead) → AreWithin lits hints heads
     → e.lits.start ≡ length lits → e.lits.end ≡ length (lits ++ more) → e.hints.start ≡ length hints → e.hints.end ≡ length (hints ++ others)
     → lines_at (lits ++ more) (hints ++ others) (heads ++ e ∷ []) ≡ lines_at lits hints heads ++ record { id = e.id; lits = more; hints = others } ∷ []

@@ -15,7 +15,7 @@ name-short text named = by_first (nat_lt 0 (length text)) (nat_le (length text) 
     by_first true false c e h = absurd (cc)
     by_first false b c e h = absurd (cc)
 
--- a name with zeros behind it fills the room
+-- a name with zeros after it fills the room
 pub padded-name : (text zeros : List ℕ) → is_name text ≡ true → zeros ≡ replicate 32 0 → IsPadded (record { bytes = text ++ drop (length text) zeros; len = length text })
 padded-name text zeros named e =
     let short : length text ≤ 32 = name-short text named in

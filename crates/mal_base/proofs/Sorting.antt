@@ -6,7 +6,7 @@ use Rattle.std.specs.List.Sorted.{IsStrictlyIncreasing, IsStrictlySortedBy}
 use Rattle.std.specs.Ordering.{nat_cmp}
 use Rattle.mal_base.specs.Clauses.{is_below, rises, climbs, clash_after, IsLeastOpposite}
 
--- a number at the head or behind it
+-- a number at the head or after it
 pub Contains-head : (x : ℕ) (xs : List ℕ) → Contains (x ∷ xs) x
 Contains-head x xs = (0, omega arith, refl)
 
@@ -38,7 +38,7 @@ climbs-sorted (x ∷ y ∷ ys) up =
 pub climbs-from_increasing : (xs : List ℕ) → IsStrictlyIncreasing xs → climbs xs ≡ true
 climbs-from_increasing xs up = climbs-sorted xs (sorted_from_strictly_increasing xs up)
 
--- what stands behind the first of numbers that climb is greater
+-- what stands after the first of numbers that climb is greater
 above-more : (l m : ℕ) (ms : List ℕ) (x : ℕ) → l < m → ((y : ℕ) → Contains ms y → m < y) → (m ≡ x) ⊎ Contains ms x → l < x
 above-more l m ms x low rest (inl e) = omega arith
 above-more l m ms x low rest (inr later) = let more : m < x = rest x later in omega arith
@@ -116,7 +116,7 @@ climbs-from_rises (l ∷ m ∷ ms) up =
 pub rises-tail : (l : ℕ) (ls : List ℕ) → rises (l ∷ ls) ≡ true → rises ls ≡ true
 rises-tail l ls up = and-right (is_below l ls) (rises ls) up
 
--- behind the first of literals that rise stand greater variables
+-- after the first of literals that rise stand greater variables
 over-more : (l m : ℕ) (ms : List ℕ) (x : ℕ) → l / 2 < m / 2 → ((y : ℕ) → Contains ms y → m / 2 < y / 2) → (m ≡ x) ⊎ Contains ms x → l / 2 < x / 2
 over-more l m ms x low rest (inl e) = rw (← e) low
 over-more l m ms x low rest (inr later) = let more : m / 2 < x / 2 = rest x later in omega arith

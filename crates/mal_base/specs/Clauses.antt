@@ -1,6 +1,6 @@
 use Rattle.std.specs.Prelude.{ℕ, ◌+◌, ◌*◌, ◌/◌, ◌≤◌, Bool, true, List, [], ◌∷◌, nat_lt, ◌==◌, ◌&&◌, if◌then◌else◌, Option, Some, None, Contains}
 
--- the first literal behind, if there is one, has a greater variable
+-- the first literal after, if there is one, has a greater variable
 abbrev pub is_below : ℕ → List ℕ → Bool
 is_below l [] = true
 is_below l (m ∷ ms) = nat_lt (l / 2) (m / 2)
@@ -10,7 +10,7 @@ abbrev pub rises : List ℕ → Bool
 rises [] = true
 rises (l ∷ ls) = is_below l ls && rises ls
 
--- a greater literal stands behind, or none
+-- a greater literal stands after, or none
 abbrev pub is_less : ℕ → List ℕ → Bool
 is_less l [] = true
 is_less l (m ∷ ms) = nat_lt l m

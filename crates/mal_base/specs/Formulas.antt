@@ -1,5 +1,6 @@
 use Rattle.std.specs.Prelude.{ℕ, ◌/◌, Bool, ◌&&◌, nat_le, List, length, sum_by, Option, Some, None}
 use Rattle.std.specs.List.{list_all}
+use Rattle.mal_base.specs.Limits.{limits}
 use Rattle.mal_base.specs.Clauses.{rises}
 
 -- a formula: its variables, and its clauses under the numbers 1, 2, .. (none stands for a tautology)
@@ -28,7 +29,7 @@ is_clause_of variables (Some lits) = rises lits && is_within variables lits
 
 -- at most 65,536 variables, 2^20 clauses and 2^24 literals
 abbrev pub is_within_limits : ℕ → List (Option (List ℕ)) → Bool
-is_within_limits variables clauses = (nat_le variables 65536 && nat_le (length clauses) 1048576) && nat_le (literals_of clauses) 16777216
+is_within_limits variables clauses = (nat_le variables limits.variables && nat_le (length clauses) limits.clauses) && nat_le (literals_of clauses) limits.literals
 
 -- a formula in form: clauses of its variables, within the limits
 abbrev pub is_formula : Formulated → Bool

@@ -1,7 +1,9 @@
+pub mod Limits
 pub mod Literals
 pub mod Clauses
 pub mod ClauseLists
 pub mod Names
+pub mod Profiles
 pub mod Asks
 pub mod NameFields
 pub mod Formulas

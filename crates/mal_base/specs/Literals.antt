@@ -1,8 +1,5 @@
+use Rattle.mal_base.specs.Limits.{greatest_variable}
 use Rattle.std.specs.Prelude.{ℕ, ℤ, pos, neg_ℤ, ◌+◌, ◌-◌, ◌*◌, ◌/◌, ◌%◌, ◌<◌, ◌≤◌, Bool, ◌==◌, if◌then◌else◌}
-
--- the greatest variable
-abbrev pub greatest_variable : ℕ
-greatest_variable = 65536
 
 -- a literal is written by its code: twice its variable, and one more where it is negative
 abbrev pub var_of : ℕ → ℕ
@@ -24,6 +21,6 @@ negated code = if code % 2 == 0 then code + 1 else code - 1
 abbrev pub dimacs_of : ℕ → ℤ
 dimacs_of code = if code % 2 == 0 then pos (code / 2) else neg_ℤ (pos (code / 2))
 
--- a code is that of a literal of the variables 1 to 65,536
+-- a code is that of a literal of a variable from 1 to the greatest
 abbrev pub IsLiteral : ℕ → Type 0
-IsLiteral code = (2 ≤ code) × (code < 131074)
+IsLiteral code = (2 ≤ code) × (code < 2 * greatest_variable + 2)

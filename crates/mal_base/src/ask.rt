@@ -1,20 +1,22 @@
 //! What a job asks for.
 
-ghost use Rattle.std.specs.Prelude.{◌≡◌, ◌≤◌, ◌↔◌, pos, IsSome, IfSome};
-ghost use Rattle.mal_base.specs.Asks.{InRange, IsAsk, IsProfile, reasked};
+ghost use Rattle.std.specs.Prelude.{◌≡◌, ◌≤◌, ◌≤ℤ◌, ◌↔◌, pos, IsTrue, IsSome, IfSome};
+ghost use Rattle.mal_base.specs.{Limits.{limits}, Asks.{InRange, IsAsk, ask_of, ask_of_numbers, is_up_to, reasked, with_profile}};
+ghost use Rattle.mal_base.specs.declared.profile.Profile.TheVariants.{Plain};
 
+use crate::limits::LIMITS;
+use crate::profile::Profile;
 use crate::weight::Weight;
 use std::marker::Model;
 
 /// A job's priority (1 to 1,000), its demand (the most solvers that it can use at a time, 1 to 64), the slices that
-/// each of its revisions may spend (1 to 4,096), and the profile of its solvers (1 or 2). Contracts see the four
-/// numbers.
+/// each of its revisions may spend (1 to 4,096), and the profile of its solvers. Contracts see the four.
 #[derive(Clone, Copy, Debug, PartialEq, Eq)]
 pub struct Ask {
     priority: u32,
     demand: u32,
     slices: u32,
-    profile: u32,
+    profile: Profile,
 }
 
 impl Model for Ask {
@@ -31,46 +33,44 @@ impl Model for Ask {
 }
 
 impl Ask {
-    /// The ask with these numbers, for solvers of profile 1. None exactly where one is out of its range.
+    /// The ask with these numbers, for solvers of the first profile. None exactly where one is out of its range.
     pub fn of(priority: i64, demand: i64, slices: i64) -> Option<Ask>
+        ensures value { result ≡ ask_of priority demand slices }
         ensures some { IsSome result ↔ InRange priority demand slices }
         ensures priority { IfSome result (λ a. pos a.priority ≡ priority) }
         ensures demand { IfSome result (λ a. pos a.demand ≡ demand) }
         ensures slices { IfSome result (λ a. pos a.slices ≡ slices) }
-        ensures profile { IfSome result (λ a. a.profile ≡ 1) }
+        ensures profile { IfSome result (λ a. a.profile ≡ Plain) }
     {
-        if priority < 1 || priority > 1000 {
+        if !is_up_to(LIMITS.priority, priority) {
             return None;
         }
-        if demand < 1 || demand > 64 {
-            return None;
-        }
-        if slices < 1 || slices > 4096 {
+        if !is_up_to(LIMITS.demand, demand) || !is_up_to(LIMITS.slices, slices) {
             return None;
         }
         Some(Ask {
             priority: priority as u32,
             demand: demand as u32,
             slices: slices as u32,
-            profile: 1,
+            profile: Profile::Plain,
         })
     }
 
-    /// The same ask, for solvers of this profile. None exactly where it is neither 1 nor 2.
-    pub fn with_profile(self, profile: i64) -> Option<Ask>
-        ensures some { IsSome result ↔ IsProfile profile }
-        ensures profile { IfSome result (λ a. pos a.profile ≡ profile) }
-        ensures priority { IfSome result (λ a. a.priority ≡ self.priority) }
-        ensures demand { IfSome result (λ a. a.demand ≡ self.demand) }
-        ensures slices { IfSome result (λ a. a.slices ≡ self.slices) }
+    /// The ask with these numbers, for solvers of the profile of this number. None exactly where one of the four is out
+    /// of its range.
+    pub fn of_numbers(priority: i64, demand: i64, slices: i64, profile: i64) -> Option<Ask>
+        ensures { result ≡ ask_of_numbers priority demand slices profile }
     {
-        if profile < 1 || profile > 2 {
-            return None;
-        }
-        Some(Ask {
-            profile: profile as u32,
-            ..self
-        })
+        let ask = Ask::of(priority, demand, slices)?;
+        let profile = Profile::of(profile)?;
+        Some(ask.with_profile(profile))
+    }
+
+    /// The same ask, for solvers of this profile.
+    pub fn with_profile(self, profile: Profile) -> Ask
+        ensures { result ≡ with_profile self profile }
+    {
+        Ask { profile, ..self }
     }
 
     /// The same ask, with this priority and this demand in place of its own.
@@ -89,7 +89,7 @@ impl Ask {
         ensures value { result ≡ self.priority }
         ensures form { IsAsk self }
         ensures some { 1 ≤ result }
-        ensures bound { result ≤ 1000 }
+        ensures bound { result ≤ limits.priority }
     {
         self.priority
     }
@@ -98,16 +98,14 @@ impl Ask {
     pub fn demand(self) -> u32
         ensures value { result ≡ self.demand }
         ensures some { 1 ≤ result }
-        ensures bound { result ≤ 64 }
+        ensures bound { result ≤ limits.demand }
     {
         self.demand
     }
 
-    /// The profile of the job's solvers: 1 or 2.
-    pub fn profile(self) -> u32
-        ensures value { result ≡ self.profile }
-        ensures some { 1 ≤ result }
-        ensures bound { result ≤ 2 }
+    /// The profile of the job's solvers.
+    pub fn profile(self) -> Profile
+        ensures { result ≡ self.profile }
     {
         self.profile
     }
@@ -116,8 +114,16 @@ impl Ask {
     pub fn slices(self) -> u32
         ensures value { result ≡ self.slices }
         ensures some { 1 ≤ result }
-        ensures bound { result ≤ 4096 }
+        ensures bound { result ≤ limits.slices }
     {
         self.slices
     }
+}
+
+/// Whether a number is 1 to this one.
+pub fn is_up_to(max: u32, number: i64) -> bool
+    ensures value { result ≡ is_up_to max number }
+    ensures range { IsTrue result ↔ ((pos 1 ≤ℤ number) × (number ≤ℤ pos max)) }
+{
+    1 <= number && number <= i64::from(max)
 }

@@ -6,10 +6,10 @@ use thiserror::Error;
 /// What is wrong with a line of DIMACS CNF, or with the end of one.
 #[derive(Clone, Copy, Debug, PartialEq, Eq, Error, Drop)]
 pub enum BlockFault {
-    /// The first line that counts is no header, there is none, or a line behind the header begins with the word `p`.
+    /// The first line that counts is no header, there is none, or a line after the header begins with the word `p`.
     #[error("bad header")]
     BadHeader,
-    /// A word behind the header is no number.
+    /// A word after the header is no number.
     #[error("bad number")]
     BadNumber,
     /// A literal's variable is above the declared variables.
@@ -21,7 +21,7 @@ pub enum BlockFault {
     /// There are more of these than may be.
     #[error("too many {which:?}")]
     Limit { which: LimitKind },
-    /// Behind the last clause stands what may not stand there: literals without a closing 0, or a line behind `%`.
+    /// After the last clause stands what may not stand there: literals without a closing 0, or a line after `%`.
     #[error("trailing words")]
     Trailing,
 }

@@ -43,7 +43,7 @@ impl ClauseList {
         }
     }
 
-    /// Puts a clause behind the others.
+    /// Puts a clause after the others.
     pub fn push(&mut self, clause: &Option<Clause>) -> Result<(), AllocError>
         ensures ok { OnOk result (self.new ≡ self.old ++ clause.now ∷ []) }
         ensures err { OnErr result (self.new ≡ self.old) }
@@ -54,7 +54,7 @@ impl ClauseList {
         }
     }
 
-    /// Puts a tautology behind the others.
+    /// Puts a tautology after the others.
     pub fn push_tautology(&mut self) -> Result<(), AllocError>
         ensures ok { OnOk result (self.new ≡ self.old ++ None ∷ []) }
         ensures err { OnErr result (self.new ≡ self.old) }
@@ -64,8 +64,8 @@ impl ClauseList {
         Ok(())
     }
 
-    /// Puts the clause of these literals, whose variables rise strictly, behind the others. A list holds fewer than 2^31
-    /// literals: a clause beyond them is told as want of memory.
+    /// Puts the clause of these literals, whose variables rise strictly, after the others. A list holds fewer than 2^31
+    /// literals: a clause beyond them is told as out of memory.
     pub fn push_rising(&mut self, lits: &[Lit]) -> Result<(), AllocError>
         requires { rises lits.now ≡ true }
         ensures ok { OnOk result (self.new ≡ self.old ++ Some lits.now ∷ []) }

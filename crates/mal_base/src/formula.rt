@@ -2,10 +2,12 @@
 
 ghost use Rattle.std.specs.Prelude.{◌≡◌, ◌≢◌, ◌<◌, ◌≤◌, true, length, get_or, None, MatchOption};
 ghost use Rattle.std.specs.List.{list_all};
+ghost use Rattle.mal_base.specs.Limits.{limits};
 ghost use Rattle.mal_base.specs.Formulas.{is_formula, is_within, is_clause_of, is_within_limits, literals_of};
 
 use crate::clause_list::ClauseList;
-use crate::literal::{Lit, Var};
+use crate::limits::LIMITS;
+use crate::literal::Lit;
 use std::marker::Model;
 
 /// A formula: the number of its variables (at most 65,536) and its clauses (at most 2^20 with at most 2^24 literals,
@@ -61,7 +63,7 @@ impl Formula {
     /// The number of the literals of the clauses, at most 2^24.
     pub fn literals(&self) -> u32
         ensures value { result ≡ literals_of self.now.clauses }
-        ensures bound { result ≤ 16777216 }
+        ensures bound { result ≤ limits.literals }
     {
         self.clauses.literals() as u32
     }
@@ -85,7 +87,9 @@ fn is_formula(variables: u32, clauses: &ClauseList) -> bool
 fn is_within_limits(variables: u32, clauses: &ClauseList) -> bool
     ensures { result ≡ is_within_limits variables clauses.now }
 {
-    variables <= Var::MAX && clauses.len() <= 1 << 20 && clauses.literals() <= 1 << 24
+    variables <= LIMITS.variables
+        && clauses.len() <= LIMITS.clauses
+        && clauses.literals() <= LIMITS.literals
 }
 
 /// Whether each of these clauses is of so many variables.

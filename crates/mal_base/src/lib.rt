@@ -9,13 +9,16 @@ mod clause_id;
 mod clause_list;
 mod formula;
 mod hall_fault;
+mod key;
 mod limit_kind;
+mod limits;
 mod line_fault;
 mod line_head;
 mod lines;
 mod literal;
 mod name;
 mod numbered_clause;
+mod profile;
 mod replay_fault;
 mod room;
 mod stage;
@@ -35,12 +38,15 @@ pub use hall_fault::{
     AdmitFault, ApplyFault, CloseFault, OpenFault, PackFault, PickFault, ReaskFault, ReplyFault,
     ReviseFault,
 };
+pub use key::Key;
 pub use limit_kind::LimitKind;
+pub use limits::{LIMITS, Limits};
 pub use line_fault::LineFault;
 pub use lines::Lines;
 pub use literal::{Lit, Var};
 pub use name::Name;
 pub use numbered_clause::NumberedClause;
+pub use profile::{Policy, Profile, Reduction};
 pub use replay_fault::ReplayFault;
 pub use room::grown;
 pub use stage::Stage;

@@ -47,7 +47,7 @@ impl Lines {
         }
     }
 
-    /// Makes room for so many more lines, literals and hints. After want of memory the lines are as before.
+    /// Makes room for so many more lines, literals and hints. If memory runs out, the lines are as before.
     pub fn reserve(&mut self, lines: usize, lits: usize, hints: usize) -> Result<(), AllocError>
         ensures lines { self.new.lines ≡ self.old.lines }
         ensures room { OnOk result (lines ≤ self.new.room) }
@@ -63,7 +63,7 @@ impl Lines {
         Ok(())
     }
 
-    /// Puts a line behind the others, for which there is room. Takes no memory.
+    /// Puts a line after the others, for which there is room. Takes no memory.
     pub fn push_reserved(&mut self, id: ClauseId, lits: &[Lit], hints: &[ClauseId])
         requires room { 1 ≤ self.old.room }
         requires lit_room { length lits.now ≤ self.old.lit_room }
@@ -124,7 +124,7 @@ impl Lines {
     }
 }
 
-/// Puts items behind the others, for which there is room, and tells where they stand.
+/// Puts items after the others, for which there is room, and tells where they stand.
 fn push_all<T: Copy>(all: &mut Vec<T>, more: &[T]) -> Span
     requires { vec_len all.old + length more.now ≤ vec_capacity all.old }
     ensures items { all.new.items ≡ all.old.items ++ more.now }

@@ -1,35 +1,38 @@
 //! Variables and literals, as DIMACS CNF numbers them.
 
 ghost use Rattle.std.specs.Prelude.{◌≡◌, ℕ, ◌+◌, ◌-◌, ◌*◌, ◌/◌, ◌%◌, ◌<◌, ◌≤◌, ◌↔◌, ◌==◌, true, IsTrue, IfOk, IsSome, IfSome, pos, int_lt, nat_abs};
-ghost use Rattle.mal_base.specs.{Literals.{var_of, dimacs_of, negated, literal, has_plus, IsLiteral}, Clauses.{climbs, HaveSame}};
+ghost use Rattle.mal_base.specs.{Limits.{greatest_variable}, Literals.{var_of, dimacs_of, negated, literal, has_plus, IsLiteral}, Clauses.{climbs, HaveSame}};
 
 use std::alloc::{AllocError, Global};
 use std::marker::Model;
 
-/// A variable, from 1 to 65,536. Contracts see its number.
+/// A variable, from 1 to 2^30. Contracts see its number.
 #[derive(Clone, Copy, Debug, PartialEq, Eq)]
 pub struct Var {
     number: u32,
 }
 
 impl Model for Var {
+    ghost use Rattle.std.specs.Prelude.{ℕ, ◌≤◌};
+    ghost use Rattle.mal_base.specs.Limits.{greatest_variable};
+
     ghost Value = { ℕ };
 
     ghost view = { λ v. v.number };
 
-    ghost invariant = { λ v. (1 ≤ v.number) × (v.number ≤ 65536) };
+    ghost invariant = { λ v. (1 ≤ v.number) × (v.number ≤ greatest_variable) };
 
     ghost inverse = { λ n. record { number = n } };
 }
 
 impl Var {
     /// The greatest variable.
-    pub const MAX: u32 = 65_536;
+    pub const MAX: u32 = 1 << 30;
 
-    /// The variable of this number, which is 1 to 65,536.
+    /// The variable of this number, which is 1 to 2^30.
     pub fn of(number: u32) -> Var
         requires some { 1 ≤ number }
-        requires bound { number ≤ 65536 }
+        requires bound { number ≤ greatest_variable }
         ensures { result ≡ number }
     {
         Var { number }
@@ -39,7 +42,7 @@ impl Var {
     pub fn number(self) -> u32
         ensures value { result ≡ self }
         ensures some { 1 ≤ result }
-        ensures bound { result ≤ 65536 }
+        ensures bound { result ≤ greatest_variable }
     {
         self.number
     }
@@ -86,9 +89,9 @@ impl Default for Lit {
 
 impl Lit {
     /// The literal that DIMACS CNF writes as this number, positive or negative. None exactly for 0 and for magnitudes
-    /// above 65,536.
+    /// above 2^30.
     pub fn of_dimacs(number: i32) -> Option<Lit>
-        ensures some { IsSome result ↔ ((1 ≤ nat_abs number) × (nat_abs number ≤ 65536)) }
+        ensures some { IsSome result ↔ ((1 ≤ nat_abs number) × (nat_abs number ≤ greatest_variable)) }
         ensures var { IfSome result (λ l. var_of l ≡ nat_abs number) }
         ensures sign { IfSome result (λ l. has_plus l ≡ int_lt (pos 0) number) }
     {

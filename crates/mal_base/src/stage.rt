@@ -5,8 +5,8 @@
 pub enum Stage {
     /// Among the clauses.
     Clauses,
-    /// Behind the line `%`.
+    /// After the line `%`.
     Percent,
-    /// Behind the line `0` that may follow the line `%`.
+    /// After the line `0` that may follow the line `%`.
     Zero,
 }

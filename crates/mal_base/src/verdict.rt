@@ -9,7 +9,7 @@ pub enum Verdict {
     Unsatisfiable { goal: ClauseId },
 }
 
-/// How a start of a solver ended: its slice was run, memory for it was wanting, or it never came back.
+/// How a start of a solver ended: its slice was run, memory for it ran out, or it never came back.
 #[derive(Clone, Copy, Debug, PartialEq, Eq)]
 pub enum Outcome {
     Ran,

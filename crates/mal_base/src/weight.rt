@@ -1,8 +1,10 @@
 //! What of its ask a job may change while it runs.
 
 ghost use Rattle.std.specs.Prelude.{◌≡◌, ◌≤◌, ◌↔◌, pos, IsSome, IfSome};
-ghost use Rattle.mal_base.specs.Asks.{IsInWeight, IsWeight};
+ghost use Rattle.mal_base.specs.{Limits.{limits}, Asks.{IsInWeight, IsWeight, weight_of}};
 
+use crate::ask::is_up_to;
+use crate::limits::LIMITS;
 use std::marker::Model;
 
 /// A priority (1 to 1,000) and a demand (1 to 64). Contracts see the two numbers.
@@ -27,14 +29,12 @@ impl Model for Weight {
 impl Weight {
     /// The weight with these numbers. None exactly where one is out of its range.
     pub fn of(priority: i64, demand: i64) -> Option<Weight>
+        ensures value { result ≡ weight_of priority demand }
         ensures some { IsSome result ↔ IsInWeight priority demand }
         ensures priority { IfSome result (λ w. pos w.priority ≡ priority) }
         ensures demand { IfSome result (λ w. pos w.demand ≡ demand) }
     {
-        if priority < 1 || priority > 1000 {
-            return None;
-        }
-        if demand < 1 || demand > 64 {
+        if !is_up_to(LIMITS.priority, priority) || !is_up_to(LIMITS.demand, demand) {
             return None;
         }
         Some(Weight {
@@ -48,7 +48,7 @@ impl Weight {
         ensures value { result ≡ self.priority }
         ensures form { IsWeight self }
         ensures some { 1 ≤ result }
-        ensures bound { result ≤ 1000 }
+        ensures bound { result ≤ limits.priority }
     {
         self.priority
     }
@@ -57,7 +57,7 @@ impl Weight {
     pub fn demand(self) -> u32
         ensures value { result ≡ self.demand }
         ensures some { 1 ≤ result }
-        ensures bound { result ≤ 64 }
+        ensures bound { result ≤ limits.demand }
     {
         self.demand
     }

@@ -5,7 +5,7 @@ use Rattle.mal_base.specs.NumberedClause.{NumberedClause}
 use Rattle.spec_exchange.specs.Exchange.{merged}
 use Rattle.spec_exchange.proofs.UnionLemmas.{merged-nothing}
 
--- where one of two lists is gone over, what is left of both stands behind what was merged
+-- where one of two lists is gone over, what is left of both stands after what was merged
 merged-rest : (xs ys all : List NumberedClause) (i j : ℕ) → (length xs ≤ i) ⊎ (length ys ≤ j) → merged xs ys ≡ all ++ merged (drop i xs) (drop j ys) → (all ++ drop i xs) ++ drop j ys ≡ merged xs ys
 merged-rest xs ys all i j (inl h) e =
     let none : drop i xs ≡ [] = drop_of_length-le xs h in

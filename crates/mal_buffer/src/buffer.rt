@@ -3,7 +3,7 @@
 ghost use Rattle.std.specs.Prelude.{◌≡◌, ◌+◌, ◌-◌, ◌<◌, ◌≤◌, List, [], ◌∷◌, ◌++◌, length, take, IfOk, OnOk};
 ghost use Rattle.spec_exchange.specs.{Exchange.{union, prefix, lesser, merged}, Order.{IsSorted}};
 
-use crate::order::clause_order;
+use crate::order::{clause_order, put_in_order};
 use mal_base::{Clause, ClauseId, NumberedClause};
 use std::alloc::{AllocError, Global};
 use std::cmp::Ordering;
@@ -46,6 +46,16 @@ impl Buffer {
         Ok(Buffer { entries })
     }
 
+    /// The buffer of clauses that stand in any order: of those with the same literals one stays, with the least number.
+    /// Takes no memory.
+    pub fn of(entries: Vec<NumberedClause>) -> Buffer
+        ensures { result ≡ union entries.items }
+    {
+        let mut entries = entries;
+        put_in_order(&mut entries);
+        Buffer { entries }
+    }
+
     /// The entries, in their order.
     pub fn entries(&self) -> &[NumberedClause]
         ensures value { result.now ≡ self.now }
@@ -81,7 +91,7 @@ impl Buffer {
     }
 }
 
-/// Copies of entries, put behind others.
+/// Copies of entries, put after others.
 fn push_copies(all: &mut Vec<NumberedClause>, more: &[NumberedClause]) -> Result<(), AllocError>
     ensures { OnOk result (all.new.items ≡ all.old.items ++ more.now) }
 {

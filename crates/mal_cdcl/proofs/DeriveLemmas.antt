@@ -2,12 +2,12 @@ use Rattle.std.proofs.Common.{◌≡◌, ℕ, zero, suc, ◌+◌, ◌^◌, ◌<�
 use Rattle.std.specs.Prelude.{All, min, nat_lt, nat_le, ◌==◌}
 use Rattle.std.specs.List.{list_any, list_all}
 use Rattle.std.proofs.lemmas.List.Elements.{All-head, All-tail}
-use Rattle.std.proofs.lemmas.Bool.{ne_eqb, leb-true, leb-false}
+use Rattle.std.proofs.lemmas.Bool.{leb-true, leb-false}
 use Rattle.std.proofs.lemmas.Bool.Decides.{nat_tests}
 use Rattle.mal_base.specs.Clauses.{rises}
 use Rattle.mal_base.specs.Literals.{var_of}
 use Rattle.mal_base.specs.Formulas.{is_within}
-use Rattle.mal_base.specs.NumberedClause.{NumberedClause, lits_under}
+use Rattle.mal_base.specs.NumberedClause.{NumberedClause}
 use Rattle.mal_base.specs.declared.trail_entry.TrailEntry.{TrailEntry}
 use Rattle.spec_node.specs.State.{Node}
 use Rattle.spec_node.specs.Value.{has_value, level_of, left_literal}
@@ -21,7 +21,6 @@ use Rattle.spec_learn.specs.Analysis.{vars_in}
 use Rattle.spec_learn.specs.Learning.{analysis, derived_id, learned, forced_by}
 use Rattle.spec_learn.specs.Refuting.{refuted, core_analysis}
 use Rattle.spec_learn.specs.CoreLaws.{HasFailed}
-use Rattle.spec_learn.proofs.SoundParts.{below-derived}
 use Rattle.spec_learn.proofs.KeepLemmas.{order-has}
 use Rattle.spec_learn.proofs.ProfileLemmas.{learned-sound, sound-asserts}
 use Rattle.spec_learn.proofs.RefuteLemmas.{emptied-sound}

@@ -4,6 +4,7 @@ use Rattle.std.proofs.lemmas.List.{length-append}
 use Rattle.std.specs.Prelude.{filter, nat_lt, slice_set, ◌^◌}
 use Rattle.std.proofs.lemmas.Bool.Decides.{nat_tests}
 use Rattle.std.proofs.lemmas.List.Folds.{list_all-append}
+use Rattle.mal_base.specs.Limits.{limits}
 use Rattle.mal_base.specs.Clauses.{rises}
 use Rattle.mal_base.specs.Literals.{var_of, has_plus}
 use Rattle.mal_base.specs.declared.trail_entry.TrailEntry.{TrailEntry}
@@ -81,9 +82,9 @@ within-numbered n first (Some lits ∷ cs) h =
     let rest = within-numbered n (first + 1) cs (and_true (is_clause_of n (Some lits)) (list_all (is_clause_of n) cs) h).1 in
     rw here.1 rest
 
--- the parts of a revision are of its own variables, which are at most 65,536
+-- the parts of a revision are of its own variables, which are at most those that are served
 pub record PostedParts (r : Posted) : Type 0 where
-  pub small : r.variables ≤ 65536
+  pub small : r.variables ≤ limits.variables
   pub claused : list_all (is_clause_of r.variables) r.clauses ≡ true
   pub assumed : is_within r.variables r.assumptions ≡ true
 
@@ -91,9 +92,9 @@ pub posted_parts : (r : Posted) → is_posted r ≡ true → PostedParts r
 posted_parts r h =
     let w = and_true (is_within_limits r.variables r.clauses && list_all (is_clause_of r.variables) r.clauses) (rises r.assumptions && is_within r.variables r.assumptions) h in
     let a = and_true (is_within_limits r.variables r.clauses) (list_all (is_clause_of r.variables) r.clauses) w.0 in
-    let b = and_true (nat_le r.variables 65536 && nat_le (length r.clauses) 1048576) (nat_le (literals_of r.clauses) 16777216) a.0 in
-    let d = and_true (nat_le r.variables 65536) (nat_le (length r.clauses) 1048576) b.0 in
-    record { small = test_le r.variables 65536 d.0; claused = a.1; assumed = (and_true (rises r.assumptions) (is_within r.variables r.assumptions) w.1).1 }
+    let b = and_true (nat_le r.variables limits.variables && nat_le (length r.clauses) limits.clauses) (nat_le (literals_of r.clauses) limits.literals) a.0 in
+    let d = and_true (nat_le r.variables limits.variables) (nat_le (length r.clauses) limits.clauses) b.0 in
+    record { small = test_le r.variables limits.variables d.0; claused = a.1; assumed = (and_true (rises r.assumptions) (is_within r.variables r.assumptions) w.1).1 }
 
 -- what is of some variables is of more
 pub lits_more : (n m : ℕ) (lits : List ℕ) → n ≤ m → is_within n lits ≡ true → is_within m lits ≡ true
@@ -127,7 +128,7 @@ take-next [] k e d l is = absurd (omega arith)
 take-next (x ∷ xs) zero e d l is = rw is refl
 take-next (x ∷ xs) (suc k) e d l is = ap (λ (ys : List TrailEntry). x ∷ ys) (take-next xs k e d (omega arith) is)
 
--- the entry behind those that are left is saved next
+-- the entry after those that are left is saved next
 pub saved-next : (phases : List Bool) (es : List TrailEntry) (made : ℕ) (d : TrailEntry) → made < length es → saved (slice_set phases (var_of (get_or es (length es - 1 - made) d).lit - 1) (has_plus (get_or es (length es - 1 - made) d).lit)) (take (length es - (made + 1)) es) ≡ saved phases (take (length es - made) es)
 saved-next phases es made d l =
     let k : length es - 1 - made ≡ length es - (made + 1) = omega arith in

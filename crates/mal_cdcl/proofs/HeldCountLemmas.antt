@@ -1,12 +1,15 @@
 -- How many clauses a node holds after a step, loads and imports, and what an import that takes nothing leaves.
-use Rattle.std.proofs.Common.{◌≡◌, ℕ, zero, suc, ◌+◌, ◌≤◌, Bool, true, false, cond, List, [], ◌∷◌, ◌++◌, length, Option, Some, None, refl, sym, ap, ◌∙◌, length-append, arith}
+use Rattle.std.proofs.Common.{◌≡◌, ◌≢◌, ℕ, ◌+◌, ◌≤◌, Bool, true, false, cond, List, [], ◌∷◌, ◌++◌, length, Option, Some, None, refl, sym, ap, ◌∙◌, length-append, arith}
 use Rattle.std.specs.Prelude.{not, filter, nat_lt, nat_le, ◌^◌, ◌==◌}
 use Rattle.std.proofs.lemmas.Bool.{and_parts, eqb-true}
 use Rattle.std.proofs.lemmas.Bool.Decides.{nat_tests}
 use Rattle.std.proofs.lemmas.List.Filters.{length-filter_both}
+use Rattle.mal_base.specs.declared.profile.Profile.{Profile}
+use Rattle.mal_base.specs.declared.profile.Reduction.TheVariants.{Never}
+use Rattle.mal_base.specs.Profiles.{policy}
 use Rattle.mal_base.specs.NumberedClause.{NumberedClause}
 use Rattle.mal_revision.specs.Posted.{Posted}
-use Rattle.spec_node.specs.State.{Node, fresh_with, has_profile}
+use Rattle.spec_node.specs.State.{Node, has_profile}
 use Rattle.spec_node.specs.Adding.{with_clause, forgetting}
 use Rattle.spec_node.specs.Sound.{NumbersRise}
 use Rattle.spec_node.proofs.SoundLemmas.{numbers-filter}
@@ -23,7 +26,6 @@ use Rattle.spec_search.specs.Step.{Case, Learns, Refutes, Propagates, Drops, Res
 use Rattle.mal_cdcl.specs.ImportSizes.{import_clauses}
 use Rattle.mal_cdcl.specs.Ready.{readied, clauses_in}
 use Rattle.mal_cdcl.specs.Importing.{with_pick, with_picks, all_imported}
-use Rattle.mal_cdcl.specs.Sliced.{IsProfile}
 
 filter-count : (p : NumberedClause → Bool) (cs : List NumberedClause) → length (filter p cs) ≤ length cs
 filter-count p cs = omega (arith, length-filter_both p (λ c. not (p c)) (λ c. refl) cs)
@@ -103,8 +105,8 @@ no-clauses [] h = refl
 no-clauses (c ∷ new) h = absurd (omega (arith, h))
 
 -- an import that is left off takes no clause
-pub left-off-none : (profile : ℕ) (new : List NumberedClause) → is_left_off profile new ≡ true → new ≡ []
-left-off-none profile new h = no-clauses new (eqb-true (length new) 0 (and_parts (profile == 2) (length new == 0) h).1)
+pub left-off-none : (profile : Profile) (new : List NumberedClause) → is_left_off profile new ≡ true → new ≡ []
+left-off-none profile new h = no-clauses new (eqb-true (length new) 0 (and_parts (policy profile).skips_empty_imports (length new == 0) h).1)
 
 -- the clauses are held then, whether the import was left off or not
 pub pick-clauses : (new : List NumberedClause) (n : Node) → (with_pick new n).clauses ≡ with_clauses new n.clauses
@@ -130,13 +132,6 @@ pub imports-has_profile : (imports : List (List NumberedClause)) (n : Node) → 
 imports-has_profile [] n h = h
 imports-has_profile (exported ∷ more) n h = imports-has_profile more (imported exported n) (by-pick (λ (m : Node). has_profile m ≡ true) (taken exported n.clauses) n h h)
 
--- a first node has the profile that it is made with
-pub fresh-has_profile : (index profile : ℕ) → IsProfile profile → has_profile (fresh_with index profile) ≡ true
-fresh-has_profile index zero h = absurd (omega (arith, h.0))
-fresh-has_profile index (suc zero) h = refl
-fresh-has_profile index (suc (suc zero)) h = refl
-fresh-has_profile index (suc (suc (suc p))) h = absurd (omega (arith, h.1))
-
 picks-held : (ps : List (List NumberedClause)) (n : Node) → length (with_picks ps n).clauses ≤ length n.clauses + import_clauses ps
 picks-held [] n = omega arith
 picks-held (new ∷ more) n =
@@ -149,8 +144,8 @@ picks-profile (new ∷ more) n = picks-profile more (with_pick new n) ∙ (pick-
 
 -- room for the numbers of the clauses held before loads and imports, of theirs, and of so many more is room for those
 -- held after
-pub ready-ids : (loads : List (Posted × ℕ)) (picks : List (List NumberedClause)) (start end : Node) (ids : ℕ) → end ≡ with_picks picks (readied loads start) → (start.profile ≡ 2 → length start.clauses + (clauses_in loads + import_clauses picks + 1000) ≤ ids) → end.profile ≡ 2 → length end.clauses + 1000 ≤ ids
-ready-ids loads picks start end ids is room two =
+pub ready-ids : (loads : List (Posted × ℕ)) (picks : List (List NumberedClause)) (start end : Node) (ids : ℕ) → end ≡ with_picks picks (readied loads start) → ((policy start.profile).reduction ≢ Never → length start.clauses + (clauses_in loads + import_clauses picks + 1000) ≤ ids) → (policy end.profile).reduction ≢ Never → length end.clauses + 1000 ≤ ids
+ready-ids loads picks start end ids is room reduces =
     let profile : end.profile ≡ start.profile = ap (λ (n : Node). n.profile) is ∙ (picks-profile picks (readied loads start) ∙ readied-profile loads start) in
     let held : length end.clauses ≡ length (with_picks picks (readied loads start)).clauses = ap (λ (n : Node). length n.clauses) is in
-    omega (arith, held, picks-held picks (readied loads start), readied-held loads start, room (sym profile ∙ two))
+    omega (arith, held, picks-held picks (readied loads start), readied-held loads start, room (λ never. reduces (ap (λ (p : Profile). (policy p).reduction) profile ∙ never)))

@@ -48,7 +48,7 @@ not_before (x ∷ xs) (suc i) c d last h l e =
     let other : nat_eq x.id c.id ≡ false = not_same x.id c.id (above-start xs i c d x.id a.1 (omega arith) e) in
     rw other (not_before xs i c d x.id a.1 (omega arith) e)
 
--- it stands behind them
+-- it stands after them
 behind : (cs : List NumberedClause) (i : ℕ) (c d : NumberedClause) (last : ℕ) → numbers_rise last cs ≡ true → i < length cs → c ≡ get_or cs i d → with_clause c (take i cs) ≡ take i cs ++ c ∷ []
 behind [] i c d last h l e = absurd (omega arith)
 behind (x ∷ xs) zero c d last h l e = refl
@@ -170,7 +170,7 @@ formed-turned n i =
     let same : length n.order ≡ n.variables = eqb-true (length n.order) n.variables parts.0 in
     record { once = once-new n.variables [] n.order parts.1; placed = rw same (placed-new n.variables [] n.order parts.1) }
 
--- the literals of the clauses from one on are its own and those of the clauses behind it
+-- the literals of the clauses from one on are its own and those of the clauses after it
 pub lits-next : (cs : List NumberedClause) (i : ℕ) (c d : NumberedClause) → i < length cs → c ≡ get_or cs i d → lits_in (drop i cs) ≡ length c.lits + lits_in (drop (suc i) cs)
 lits-next [] i c d l e = absurd (omega arith)
 lits-next (x ∷ xs) zero c d l e = rw e refl

@@ -1,7 +1,9 @@
-use Rattle.std.proofs.Common.{◌≡◌, ℕ, zero, suc, ◌+◌, ◌^◌, ◌<◌, ◌≤◌, Bool, true, not, List, [], ◌∷◌, length, drop, get_or, refl, sym, ap, ◌∙◌, subst, arith}
+use Rattle.std.proofs.Common.{◌≡◌, ◌≢◌, ℕ, zero, suc, ◌+◌, ◌^◌, ◌<◌, ◌≤◌, Bool, true, not, List, [], ◌∷◌, length, drop, get_or, refl, sym, ap, ◌∙◌, subst, arith}
 use Rattle.std.specs.Prelude.{All}
 use Rattle.std.proofs.lemmas.Bool.{leb-true, and_parts}
 use Rattle.std.proofs.lemmas.List.Elements.{All-head, All-tail, All-cons, All-nil, All-weaker}
+use Rattle.mal_base.specs.declared.profile.Reduction.TheVariants.{Never}
+use Rattle.mal_base.specs.Profiles.{policy}
 use Rattle.mal_base.specs.Formulas.{is_within}
 use Rattle.mal_base.specs.NumberedClause.{NumberedClause}
 use Rattle.mal_revision.specs.Posted.{Posted}
@@ -157,7 +159,7 @@ importing-ends picks i target bound now l h =
     }
 
 -- the scratch has room for the numbers of all clauses that are held then
-pub importing-ids : (loads : List (Posted × ℕ)) (imports picks : List (List NumberedClause)) (start end : Node) (ids : ℕ) → picks ≡ picked imports (readied loads start).clauses → end ≡ all_imported imports (readied loads start) → (start.profile ≡ 2 → length start.clauses + (clauses_in loads + import_clauses picks + 1000) ≤ ids) → end.profile ≡ 2 → length end.clauses + 1000 ≤ ids
+pub importing-ids : (loads : List (Posted × ℕ)) (imports picks : List (List NumberedClause)) (start end : Node) (ids : ℕ) → picks ≡ picked imports (readied loads start).clauses → end ≡ all_imported imports (readied loads start) → ((policy start.profile).reduction ≢ Never → length start.clauses + (clauses_in loads + import_clauses picks + 1000) ≤ ids) → (policy end.profile).reduction ≢ Never → length end.clauses + 1000 ≤ ids
 importing-ids loads imports picks start end ids is done room =
     let same : end ≡ with_picks picks (readied loads start) = done ∙ (sym (picked-done imports (readied loads start)) ∙ ap (λ (ps : List (List NumberedClause)). with_picks ps (readied loads start)) (sym is)) in
     ready-ids loads picks start end ids same room

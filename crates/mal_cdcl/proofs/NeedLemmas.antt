@@ -75,7 +75,7 @@ readying-next l ls all exported start bound now next h is s =
       fitted = rw v h.fitted;
     }
 
--- behind the last load nothing is left
+-- after the last load nothing is left
 pub posted-end : (loads : List (Bor Posted × ℕ)) (i : ℕ) → length loads ≤ i → posted (drop i loads) ≡ []
 posted-end [] zero l = refl
 posted-end [] (suc i) l = refl

@@ -119,7 +119,7 @@ picking-next all i exported d pick clauses picks seen next l e p noted h =
       done = append_assoc picks (pick ∷ []) (picked (lent (drop (i + 1) all)) (with_clauses (taken exported.now h.now) h.now)) ∙ (ap (λ (x : List NumberedClause). picks ++ x ∷ picked (lent (drop (i + 1) all)) (with_clauses (taken exported.now h.now) h.now)) taking ∙ done);
     }
 
--- behind the last list nothing is left
+-- after the last list nothing is left
 drop-all : (all : List (Bor (List NumberedClause))) (i : ℕ) → length all ≤ i → lent (drop i all) ≡ []
 drop-all [] zero l = refl
 drop-all [] (suc i) l = refl

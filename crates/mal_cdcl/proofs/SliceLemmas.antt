@@ -1,4 +1,6 @@
-use Rattle.std.proofs.Common.{◌≡◌, ℕ, zero, suc, ◌+◌, ◌≤◌, Bool, true, false, cond, List, [], ◌∷◌, ◌++◌, length, Option, Some, None, refl, sym, ap, ◌∙◌, append_assoc, append-nil, arith}
+use Rattle.std.proofs.Common.{◌≡◌, ℕ, zero, suc, ◌+◌, ◌≤◌, true, false, List, [], ◌∷◌, ◌++◌, length, Option, Some, None, refl, sym, ap, ◌∙◌, append_assoc, append-nil, arith}
+use Rattle.mal_base.specs.declared.profile.Profile.{Profile}
+use Rattle.mal_base.specs.Profiles.{policy}
 use Rattle.mal_base.specs.NumberedClause.{Line}
 use Rattle.spec_node.specs.State.{Node}
 use Rattle.spec_node.specs.Sound.{IsSound}
@@ -62,7 +64,7 @@ slicing-next k used u start now next h s =
 
 -- the scratch has room for the numbers of all clauses held in it
 pub slicing-ids : (left used : ℕ) (start now : NodeWithRoom) (before after : Shown) → IsSlicing left used start now → after.ids ≡ before.ids → HasIdRoom 1000 start.state before → HasIdRoom 0 now.state after
-slicing-ids left used start now before after h same room two = omega (arith, h.held, same, room (sym h.profile ∙ two))
+slicing-ids left used start now before after h same room reduces = omega (arith, h.held, same, room (λ never. reduces (ap (λ (p : Profile). (policy p).reduction) h.profile ∙ never)))
 
 -- where a slice is over, or no step is left, it was made
 pub record HasRun (start now : NodeWithRoom) : Type 0 where

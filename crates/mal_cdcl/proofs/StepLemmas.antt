@@ -1,8 +1,11 @@
-use Rattle.std.proofs.Common.{◌≡◌, ℕ, ◌+◌, ◌*◌, ◌/◌, ◌≤◌, Bool, true, false, not, ◌&&◌, nat_le, List, Some, refl, arith}
+use Rattle.std.proofs.Common.{◌≡◌, ◌≢◌, ℕ, ◌+◌, ◌*◌, ◌/◌, ◌≤◌, Bool, true, false, not, ◌&&◌, nat_le, List, Some, refl, arith}
 use Rattle.std.proofs.lemmas.Bool.{false≢true}
 use Rattle.std.proofs.lemmas.Bool.Decides.{nat_tests}
 use Rattle.mal_base.specs.Literals.{literal, var_of}
 use Rattle.mal_base.specs.Formulas.{is_within}
+use Rattle.mal_base.specs.declared.profile.Reduction.{Reduction}
+use Rattle.mal_base.specs.declared.profile.Reduction.TheVariants.{Never, After}
+use Rattle.mal_base.specs.Profiles.{is_due}
 use Rattle.mal_base.specs.declared.trail_entry.TrailEntry.{TrailEntry}
 use Rattle.spec_node.specs.Value.{is_true, has_value, next_assumption, first_free}
 use Rattle.mal_cdcl.specs.Within.{is_order_of}
@@ -12,6 +15,11 @@ use Rattle.mal_cdcl.proofs.FillLemmas.{found_holds}
 not_true : (b : Bool) → not b ≡ true → b ≡ false
 not_true true h = absurd (false≢true h)
 not_true false h = refl
+
+-- a reduction that is due is one that comes at all
+pub due-reduces : (r : Reduction) (count : ℕ) → is_due r count ≡ true → r ≢ Never
+due-reduces Never count h = absurd (false≢true h)
+due-reduces (After most) count h = λ never. absurd (cc)
 
 pub test_le : (a b : ℕ) → nat_le a b ≡ true → a ≤ b
 test_le a b = grind (arith, nat_tests)

@@ -45,7 +45,8 @@ is_posted_in lits clauses = list_any (λ c. option_map_or (bytes_eq lits) c fals
 abbrev pub is_loaded_in : List ℕ → List (Posted × ℕ) → Bool
 is_loaded_in lits loads = list_any (λ l. is_posted_in lits l.0.clauses) loads
 
--- a node with the clauses that it takes of a list: under profile 2 a list of none changes nothing
+-- a node with the clauses that it takes of a list: where its profile skips empty imports, a list of none changes
+-- nothing
 abbrev pub with_pick : List NumberedClause → Node → Node
 with_pick new n = if is_left_off n.profile new then n else with_new new n
 

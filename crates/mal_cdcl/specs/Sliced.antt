@@ -1,4 +1,6 @@
-use Rattle.std.specs.Prelude.{◌≡◌, ℕ, suc, ◌+◌, ◌-◌, ◌≤◌, ◌<◌, ◌^◌, true, false, List, [], ◌∷◌, ◌++◌, length, Option, Some, None}
+use Rattle.std.specs.Prelude.{◌≡◌, ◌≢◌, ℕ, suc, ◌+◌, ◌-◌, ◌≤◌, ◌<◌, ◌^◌, true, false, List, [], ◌∷◌, ◌++◌, length, Option, Some, None}
+use Rattle.mal_base.specs.declared.profile.Reduction.TheVariants.{Never}
+use Rattle.mal_base.specs.Profiles.{policy}
 use Rattle.mal_base.specs.NumberedClause.{Line}
 use Rattle.spec_node.specs.State.{Node}
 use Rattle.spec_learn.specs.Analysis.{Analysed}
@@ -34,10 +36,6 @@ pub record HasLowCounts (n : Node) : Type 0 where
   pub conflicts_since_dropping : n.conflicts_since_dropping < 2 ^ 31
   pub serial : n.serial < 2 ^ 56
 
--- the number of a profile
-abbrev pub IsProfile : ℕ → Type 0
-IsProfile profile = (1 ≤ profile) × (profile ≤ 2)
-
 -- the counts of a node are those of a node that was never run
 pub record IsUnrun (n : Node) : Type 0 where
   pub conflicts_since_restart : n.conflicts_since_restart ≡ 0
@@ -54,9 +52,9 @@ pub record MayCount (n : Node) : Type 0 where
   pub serial : n.serial + 1 < 2 ^ 57
 
 -- a scratch has room for the numbers of the clauses that a node holds and derives in so many steps, where its profile
--- drops clauses
+-- reduces
 abbrev pub HasIdRoom : ℕ → Node → Shown → Type 0
-HasIdRoom steps n s = n.profile ≡ 2 → length n.clauses + steps ≤ s.ids
+HasIdRoom steps n s = (policy n.profile).reduction ≢ Never → length n.clauses + steps ≤ s.ids
 
 -- the lines stay, and no room is lost but for so many clauses and literals
 pub record Keeps (clauses literals : ℕ) (before after : NodeWithRoom) : Type 0 where

@@ -1,5 +1,6 @@
 use Rattle.std.specs.Prelude.{◌≡◌, ℕ, ◌≤◌, Bool, true, List, length, take, nat_le}
 use Rattle.std.specs.List.{list_all}
+use Rattle.mal_base.specs.Limits.{limits}
 use Rattle.mal_base.specs.Formulas.{is_within}
 use Rattle.mal_base.specs.NumberedClause.{NumberedClause, Line}
 use Rattle.mal_base.specs.declared.trail_entry.TrailEntry.{TrailEntry}
@@ -17,7 +18,7 @@ is_order_of variables order = list_all (λ v. nat_le v variables) order
 -- many as there are and turns by the node's index, and the numbers of its clauses rise
 pub record IsNode (index variables most : ℕ) (assumptions : List ℕ) (order : Ordered) (phases : List Bool) (clauses : List NumberedClause) : Type 0 where
   pub place : index ≤ 63
-  pub small : variables ≤ 65536
+  pub small : variables ≤ limits.variables
   pub room : variables ≤ most
   pub assumed : is_within variables assumptions ≡ true
   pub turned : order.index ≡ index

@@ -1,7 +1,7 @@
 //! The clauses of an engine as an image has them, and an engine of an image's clauses.
 
 ghost use Rattle.std.specs.Prelude.{◌≡◌, ◌≤◌, true, IfOk};
-ghost use Rattle.mal_base.specs.Clauses.{rises};
+ghost use Rattle.mal_base.specs.{Limits.{greatest_variable}, Clauses.{rises}};
 ghost use Rattle.mal_freeze.specs.Imaged.{are_clauses, numbers_rise};
 ghost use Rattle.mal_cdcl.specs.{Rising.{all_rise}, ImportSizes.{lits_in}};
 
@@ -34,7 +34,7 @@ pub fn clauses_of<E: Listed>(alloc: Global, engine: &E) -> Result<Vec<NumberedCl
     Ok(clauses)
 }
 
-/// How many literals these clauses have. A size that no memory holds is want of memory.
+/// How many literals these clauses have. A size that no memory holds is out of memory.
 fn count_held(clauses: &[NumberedClause]) -> Result<usize, AllocError>
     ensures { IfOk result (λ n. n ≡ lits_in clauses.now) }
 {
@@ -52,7 +52,7 @@ pub fn engine_of<E: Engine>(
     clauses: &[NumberedClause],
     trail: &Trail,
 ) -> Result<E, AllocError>
-    requires bound { variables ≤ 65536 }
+    requires bound { variables ≤ greatest_variable }
     requires form { are_clauses variables clauses.now ≡ true }
     requires rising { numbers_rise 0 clauses.now ≡ true }
     ensures clauses { IfOk result (λ e. E.clauses e ≡ clauses.now) }

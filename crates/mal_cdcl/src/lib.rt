@@ -3,7 +3,6 @@
 
 mod assuming;
 mod copies;
-mod dropping;
 mod import_filter;
 mod learning;
 mod needs;

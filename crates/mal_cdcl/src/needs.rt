@@ -1,7 +1,7 @@
 //! What room loads and the slice after them need.
 
 ghost use Rattle.std.specs.Prelude.{◌≡◌, ℕ, ◌+◌, ◌-◌, ◌≤◌, List, IfOk, OnOk, vec_len, vec_capacity};
-ghost use Rattle.mal_base.specs.declared.trail_entry.TrailEntry.{TrailEntry};
+ghost use Rattle.mal_base.specs.{Limits.{limits}, declared.trail_entry.TrailEntry.{TrailEntry}};
 ghost use Rattle.mal_trail.specs.Rooms.{HasRoom};
 ghost use Rattle.spec_search.specs.Slice.{most_numbers};
 ghost use Rattle.mal_cdcl.specs.{ImportSizes.{lits_in, import_clauses, import_literals}, Ready.{posted, greatest, clauses_in, literals_in, most_assumptions}};
@@ -16,6 +16,9 @@ use std::alloc::AllocError;
 /// How many steps a slice has.
 pub const SLICE_STEPS: u32 = 1000;
 
+/// How many literals and hints the lines of a slice may have, beside those of one more line.
+const SLICE_ROOM: usize = 65_536;
+
 /// What a node needs: variables in all, clauses and literals more, and assumptions of one load.
 #[derive(Clone, Copy, Debug)]
 pub struct Needs {
@@ -25,12 +28,13 @@ pub struct Needs {
     pub assumptions: usize,
 }
 
-/// What these loads need at a node of so many variables, at most 65,536. Sizes that no memory holds are want of memory.
+/// What these loads need at a node of so many variables. A size that no memory holds is told as out of
+/// memory.
 fn needs_of(loads: &[(&Revision, u32)], variables: u32) -> Result<Needs, AllocError>
-    requires { variables ≤ 65536 }
+    requires { variables ≤ limits.variables }
     ensures variables { IfOk result (λ n. n.variables ≡ greatest (posted loads.now) variables) }
     ensures least { IfOk result (λ n. variables ≤ n.variables) }
-    ensures bound { IfOk result (λ n. n.variables ≤ 65536) }
+    ensures bound { IfOk result (λ n. n.variables ≤ limits.variables) }
     ensures clauses { IfOk result (λ n. n.clauses ≡ clauses_in (posted loads.now)) }
     ensures literals { IfOk result (λ n. n.literals ≡ literals_in (posted loads.now)) }
     ensures assumptions { IfOk result (λ n. n.assumptions ≡ most_assumptions (posted loads.now) 0) }
@@ -52,16 +56,16 @@ fn needs_of(loads: &[(&Revision, u32)], variables: u32) -> Result<Needs, AllocEr
     Ok(needs)
 }
 
-/// What these loads, the clauses taken and then a slice need at a node of so many variables, at most 65,536.
+/// What these loads, the clauses taken and then a slice need at a node of so many variables.
 pub fn needs_in_all(
     loads: &[(&Revision, u32)],
     picks: &[NewClauses],
     variables: u32,
 ) -> Result<Needs, AllocError>
-    requires { variables ≤ 65536 }
+    requires { variables ≤ limits.variables }
     ensures variables { IfOk result (λ n. n.variables ≡ greatest (posted loads.now) variables) }
     ensures least { IfOk result (λ n. variables ≤ n.variables) }
-    ensures bound { IfOk result (λ n. n.variables ≤ 65536) }
+    ensures bound { IfOk result (λ n. n.variables ≤ limits.variables) }
     ensures clauses { IfOk result (λ n. n.clauses ≡ clauses_in (posted loads.now) + import_clauses picks.now + 1000) }
     ensures literals { IfOk result
         (λ n. n.literals ≡ literals_in (posted loads.now) + import_literals picks.now + most_numbers n.variables) }
@@ -88,7 +92,7 @@ pub fn reserve<E: Listed>(
     needs: Needs,
     new: u32,
 ) -> Result<(), AllocError>
-    requires { needs.variables ≤ 65536 }
+    requires { needs.variables ≤ limits.variables }
     ensures entries { trail.new.entries ≡ trail.old.entries }
     ensures processed { trail.new.processed ≡ trail.old.processed }
     ensures trail_room { OnOk result (needs.variables ≤ trail.new.room) }
@@ -115,13 +119,13 @@ pub fn reserve<E: Listed>(
 
 /// How many literals and hints a slice may derive, for so many variables.
 pub fn most_numbers(variables: u32) -> usize
-    requires { variables ≤ 65536 }
+    requires { variables ≤ limits.variables }
     ensures { result ≡ most_numbers variables }
 {
-    65_536 + 2 * variables as usize + 2
+    SLICE_ROOM + 2 * variables as usize + 2
 }
 
-/// How many literals clauses have. A size that no memory holds is want of memory.
+/// How many literals clauses have. A size that no memory holds is out of memory.
 fn count_lits(entries: &[NumberedClause]) -> Result<usize, AllocError>
     ensures { IfOk result (λ n. n ≡ lits_in entries.now) }
 {
@@ -132,7 +136,7 @@ fn count_lits(entries: &[NumberedClause]) -> Result<usize, AllocError>
     Ok(count)
 }
 
-/// The sum of two sizes. One that no memory holds is want of memory.
+/// The sum of two sizes. One that no memory holds is out of memory.
 pub fn added(one: usize, more: usize) -> Result<usize, AllocError>
     ensures { IfOk result (λ n. n ≡ one + more) }
 {

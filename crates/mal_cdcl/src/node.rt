@@ -1,20 +1,21 @@
 //! A solver node.
 
-ghost use Rattle.std.specs.Prelude.{◌≡◌, ◌+◌, ◌-◌, ◌^◌, ◌<◌, ◌≤◌, length, Some, None, [], ◌∷◌, ◌++◌, OnOk, OnErr, IfOk, MatchOption, vec_capacity};
-ghost use Rattle.mal_base.specs.Trails.{value_on};
+ghost use Rattle.std.specs.Prelude.{◌≡◌, ◌≢◌, true, ◌+◌, ◌-◌, ◌^◌, ◌<◌, ◌≤◌, length, Some, None, [], ◌∷◌, ◌++◌, OnOk, OnErr, IfOk, MatchOption, vec_capacity};
+ghost use Rattle.mal_base.specs.{Limits.{limits}, Profiles.{policy}, Trails.{value_on}};
+ghost use Rattle.mal_base.specs.declared.profile.Reduction.TheVariants.{Never};
 ghost use Rattle.spec_node.specs.{State.{fresh, fresh_with}, Value.{next_assumption, first_free, level_of}, Batch.{propagated}, Cut.{cut}, Load.{loaded}, Laws.{AreNewNumbers}, Model.{model_of}, Sound.{IsSound}};
 ghost use Rattle.mal_cdcl.specs.{ImportSizes.{lits_in, import_clauses}, Importing.{AreNewTo, lent, MayImportAll, all_imported, with_pick}, Ready.{posted, readied, greatest, clauses_in, AreNew, HasRoomFor, IsSpared}, Sliced.{HasSliceRoom, HasStepRoom, HasIdRoom, HasLowCounts, MayCount, Keeps, IsShown, IsEnded, IsStepped, IsSearched, IsFailing, HasClauseRoom, HasLineRoom, IsLineLess}, Sourced.{IsSource, analysis_from, line_from}};
 ghost use Rattle.mal_trail.specs.Rooms.{HasRoom};
 ghost use Rattle.spec_learn.specs.{Learning.{analysis, derived_id, learned}, Refuting.{refuted}};
-ghost use Rattle.spec_search.specs.{Step.{step, restarting, branching, case_of, after_case}, Dropping.{dropped}, Step.Case.{Decides, Restarts}, Slice.{slice, numbers_of, most_numbers}};
+ghost use Rattle.spec_search.specs.{Step.{step, restarting, branching, case_of, after_case}, Dropping.{is_dropping_due, dropped}, Step.Case.{Decides, Restarts}, Slice.{slice, numbers_of, most_numbers}};
 ghost use Rattle.mal_learn.specs.Shown.{HasLeft};
 ghost use Rattle.mal_freeze.specs.Imaged.{IsImage};
 
 use crate::import_filter::{self, NewClauses};
 use crate::needs::{self, Needs, SLICE_STEPS, most_numbers};
 use crate::source::Source;
-use crate::{assuming, copies, dropping, learning, node_load, restart};
-use mal_base::{ClauseId, Lines, Lit, NumberedClause, Var, Verdict};
+use crate::{assuming, copies, learning, node_load, restart};
+use mal_base::{ClauseId, Lines, Lit, NumberedClause, Profile, Reduction, Var, Verdict};
 use mal_buffer::Buffer;
 use mal_freeze::{Image, Parts};
 use mal_learn::Scratch;
@@ -25,13 +26,19 @@ use std::alloc::{AllocError, Global};
 use std::marker::Model;
 use std::mem;
 
+/// What each count of a search stays below before a slice.
+const MOST_COUNTED: u32 = 1 << 31;
+
+/// What the number of derived clauses stays below before a slice.
+const MOST_DERIVED: u64 = 1 << 56;
+
 /// A solver node over an engine of unit propagation: what it holds, how far its search has come, and what its last
 /// slice derived. The first assumptions that were found true are passed until a cut. Contracts see the record of its
 /// state, what it has room for, and the lines of that slice.
 #[derive(Drop)]
 pub struct Node<E: Engine> {
     index: u32,
-    profile: u32,
+    profile: Profile,
     variables: u32,
     serial: u64,
     conflicts_since_restart: u32,
@@ -93,19 +100,17 @@ impl<E: Engine> Model for Node<E> {
 }
 
 impl<E: Listed> Node<E> {
-    /// The node of this index (0 to 63) and of profile 1 at its first start. Takes no memory.
+    /// The node of this index (0 to 63) and of the first profile at its first start. Takes no memory.
     pub fn fresh(alloc: Global, index: u32) -> Node<E>
         requires { index ≤ 63 }
         ensures { result.state ≡ fresh index }
     {
-        Node::fresh_with(alloc, index, 1)
+        Node::fresh_with(alloc, index, Profile::Plain)
     }
 
-    /// The node of this index (0 to 63) and of this profile (1 or 2) at its first start. Takes no memory.
-    pub fn fresh_with(alloc: Global, index: u32, profile: u32) -> Node<E>
-        requires index { index ≤ 63 }
-        requires some { 1 ≤ profile }
-        requires bound { profile ≤ 2 }
+    /// The node of this index (0 to 63) and of this profile at its first start. Takes no memory.
+    pub fn fresh_with(alloc: Global, index: u32, profile: Profile) -> Node<E>
+        requires { index ≤ 63 }
         ensures { result.state ≡ fresh_with index profile }
     {
         Node {
@@ -159,6 +164,17 @@ impl<E: Listed> Node<E> {
         mem::replace(&mut self.lines, none)
     }
 
+    /// Whether its counts are low enough for a slice: each below 2^31, and fewer than 2^56 clauses derived.
+    pub fn may_run(&self) -> bool
+        ensures low { result ≡ true → HasLowCounts self.now.state }
+        ensures whole { HasLowCounts self.now.state → result ≡ true }
+    {
+        self.conflicts_since_restart < MOST_COUNTED
+            && self.restart_number < MOST_COUNTED
+            && self.conflicts_since_dropping < MOST_COUNTED
+            && self.serial < MOST_DERIVED
+    }
+
     /// The verdict, if the search has ended.
     pub fn verdict(&self) -> Option<Verdict>
         ensures { result ≡ self.now.state.verdict }
@@ -194,7 +210,7 @@ impl<E: Listed> Node<E> {
         requires empty { values.old.items ≡ [] }
         requires room { self.now.state.variables ≤ vec_capacity values.old }
         ensures items { values.new.items ≡ model_of self.now.state }
-        ensures len { length values.new.items ≤ 65536 }
+        ensures len { length values.new.items ≤ limits.variables }
     {
         self.trail.truth_values(self.variables, values);
     }
@@ -237,7 +253,7 @@ impl<E: Listed> Node<E> {
         ensures room { OnOk result (HasRoomFor (posted loads.now) picks.now self.new) }
         ensures fitted { OnOk result (greatest (posted loads.now) self.old.state.variables < scratch.new.room) }
         ensures ids { OnOk result
-            (self.old.state.profile ≡ 2
+            ((policy self.old.state.profile).reduction ≢ Never
             → length self.old.state.clauses + (clauses_in (posted loads.now) + import_clauses picks.now + 1000)
             ≤ scratch.new.ids) }
         ensures more { scratch.old.room ≤ scratch.new.room }
@@ -260,22 +276,25 @@ impl<E: Listed> Node<E> {
         scratch.swap_spare(&mut self.lines, SLICE_STEPS as usize, numbers, numbers)
     }
 
-    /// Makes room in a scratch for these variables, and where the profile drops clauses for the numbers of the clauses
+    /// Makes room in a scratch for these variables, and where the profile reduces for the numbers of the clauses
     /// held and of as many more as are needed.
     fn fit(&self, needs: Needs, scratch: &mut Scratch) -> Result<(), AllocError>
-        requires { needs.variables ≤ 65536 }
+        requires { needs.variables ≤ limits.variables }
         ensures room { OnOk result (needs.variables < scratch.new.room) }
         ensures ids { OnOk result
-            (self.now.state.profile ≡ 2 → length self.now.state.clauses + needs.clauses ≤ scratch.new.ids) }
+            ((policy self.now.state.profile).reduction ≢ Never
+            → length self.now.state.clauses + needs.clauses ≤ scratch.new.ids) }
         ensures more { scratch.old.room ≤ scratch.new.room }
         ensures more_ids { scratch.old.ids ≤ scratch.new.ids }
     {
         scratch.fit(needs.variables)?;
-        if self.profile != 2 {
-            return Ok(());
+        match self.profile.policy().reduction {
+            Reduction::Never => Ok(()),
+            Reduction::After { .. } => {
+                let ids = needs::added(self.engine.count(), needs.clauses)?;
+                scratch.fit_ids(ids)
+            }
         }
-        let ids = needs::added(self.engine.count(), needs.clauses)?;
-        scratch.fit_ids(ids)
     }
 
     /// Loads a revision, whose first clause has this number, where there is room for it. Takes no memory.
@@ -300,15 +319,15 @@ impl<E: Listed> Node<E> {
         self.verdict = None;
     }
 
-    /// Imports what was taken of a list, where there is room for it: under profile 2 a list of which nothing was taken
-    /// changes nothing. Takes no memory.
+    /// Imports what was taken of a list, where there is room for it: where the profile skips empty imports, a list of
+    /// which nothing was taken changes nothing. Takes no memory.
     fn take_pick(&mut self, exported: &[NumberedClause])
         requires new { AreNewTo self.old.state.clauses self.old.state.variables exported.now }
         requires room { HasRoom self.old.state.variables (length exported.now) (lits_in exported.now) self.old.spare.engine }
         ensures state { self.new.state ≡ with_pick exported.now self.old.state }
         ensures keeps { Keeps (length exported.now) (lits_in exported.now) self.old self.new }
     {
-        if dropping::is_left_off(self.profile, exported) {
+        if node_load::is_left_off(self.profile, exported) {
             return;
         }
         self.cut(0);
@@ -387,11 +406,20 @@ impl<E: Listed> Node<E> {
             self.propagate();
             return None;
         }
-        if dropping::is_due(self.profile, self.conflicts_since_dropping) {
+        if self.is_dropping_due() {
             self.drop_longer_half(scratch);
             return None;
         }
         self.restart_or_branch()
+    }
+
+    /// Whether a dropping is due, as it never is under a profile that reduces nothing.
+    fn is_dropping_due(&self) -> bool
+        ensures value { result ≡ is_dropping_due self.now.state }
+        ensures reduces { result ≡ true → (policy self.now.state.profile).reduction ≢ Never }
+    {
+        let reduction = self.profile.policy().reduction;
+        reduction.is_due(self.conflicts_since_dropping)
     }
 
     /// Restarts where that is due, else branches.
@@ -624,7 +652,8 @@ impl<E: Listed> Node<E> {
         learning::bump_all(&mut self.order, scratch.clause());
         self.serial += 1;
         self.conflicts_since_restart += 1;
-        let count = dropping::counted(self.profile, self.conflicts_since_dropping);
+        let reduction = self.profile.policy().reduction;
+        let count = reduction.counted(self.conflicts_since_dropping);
         self.conflicts_since_dropping = count;
         self.conflict = None;
     }
@@ -633,7 +662,7 @@ impl<E: Listed> Node<E> {
 impl<E: Listed> Node<E> {
     /// Loads revisions, each with the number of its first clause, one after another, then imports what others exported,
     /// one list after another, and makes room for a slice in the node and in a scratch. The room for the slice's lines
-    /// is that of the scratch's spare lines. Where memory is wanting the node's state and its lines stay as they were;
+    /// is that of the scratch's spare lines. Where memory runs out the node's state and its lines stay as they were;
     /// else the lines of the last slice are taken away.
     pub fn ready(
         &mut self,

@@ -3,11 +3,11 @@
 ghost use Rattle.std.specs.Prelude.{◌≡◌, ◌+◌, ◌-◌, ◌*◌, ◌/◌, ◌^◌, ◌≤◌, ◌<◌, true, All, ◌++◌, length, replicate, slice_set, vec_len, vec_capacity};
 ghost use Rattle.std.specs.List.{list_all};
 ghost use Rattle.mal_base.specs.{Formulas.{is_clause_of, literals_of}, NumberedClause.{NumberedClause}, Literals.{var_of, has_plus}};
-ghost use Rattle.spec_node.specs.{Cut.{saved}, Load.{numbered, with_originals}, Sound.{NumbersRise}, Import.{with_clauses, serial_above}};
+ghost use Rattle.spec_node.specs.{Cut.{saved}, Load.{numbered, with_originals}, Sound.{NumbersRise}, Import.{is_left_off, with_clauses, serial_above}};
 ghost use Rattle.mal_cdcl.specs.{ImportSizes.{lits_in}, Importing.{AreNewTo}};
 ghost use Rattle.mal_trail.specs.Rooms.{IsLeft};
 
-use mal_base::{ClauseId, ClauseList, Lit, NumberedClause, TrailEntry, Var};
+use mal_base::{ClauseId, ClauseList, Lit, NumberedClause, Profile, TrailEntry, Var};
 use mal_trail::{Engine, Trail};
 
 /// Appends the phases of so many new variables.
@@ -95,6 +95,14 @@ pub fn add_imported<E: Engine>(engine: &mut E, trail: &Trail, exported: &[Number
     for entry in exported {
         engine.learn(entry.id(), entry.lits(), trail);
     }
+}
+
+/// Whether a node of this profile leaves off an import of which these clauses are taken: where there are none, and it
+/// skips such imports.
+pub fn is_left_off(profile: Profile, taken: &[NumberedClause]) -> bool
+    ensures { result ≡ is_left_off profile taken.now }
+{
+    profile.policy().skips_empty_imports && taken.len() == 0
 }
 
 /// The least serial from this one on that is above those of derived clauses.

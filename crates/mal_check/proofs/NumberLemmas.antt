@@ -8,7 +8,7 @@ use Rattle.spec_logic.specs.Derivation.{Holding}
 use Rattle.spec_logic.specs.Refutation.{numbered, with_clause}
 use Rattle.mal_check.proofs.PlaceLemmas.{get-front, get-last}
 
--- no number is held behind the last one
+-- no number is held after the last one
 pub numbered-past : (xs : List (Option (List ℕ))) (id : ℕ) → length xs < id → numbered xs id ≡ None
 numbered-past xs id high = ap (λ (b : Bool). cond b None (slice_get xs (id - 1))) (ne_eqb id 0 (λ e. omega arith)) ∙ slice_get_past xs (id - 1) (omega arith)
 

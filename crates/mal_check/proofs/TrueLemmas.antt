@@ -60,7 +60,7 @@ propagation-alike held (id ∷ hints) ts us h =
     let rest : propagation held (trues_after (effect_of ts (held id)) ts) hints ≡ propagation held (trues_after (effect_of ts (held id)) us) hints = propagation-alike held hints (trues_after (effect_of ts (held id)) ts) (trues_after (effect_of ts (held id)) us) (after-alike (effect_of ts (held id)) ts us h) in
     ap (λ (d : Derivation). ends_or (effect_of ts (held id)) id d) rest ∙ ap (λ (f : Effect). ends_or f id (propagation held (trues_after f us) hints)) e
 
--- a literal put behind the others is as good as one in front
+-- a literal put after the others is as good as one in front
 or-swap : (a b : Bool) → (a || (b || false)) ≡ (b || a)
 or-swap true true = refl
 or-swap true false = refl

@@ -17,7 +17,7 @@ effect_seen (effect.Makes lit) = Makes lit
 effect_seen effect.Conflicts = Conflicts
 effect_seen effect.LeavesMore = LeavesMore
 
--- an answer other than want of memory is this end of the hints
+-- an answer other than out of memory is this end of the hints
 abbrev pub Stops : CheckFault → Derivation → Type 0
 Stops (fault.IdUsed id) end = ⊥
 Stops (fault.UnknownHint id) end = end ≡ Unknown id
@@ -29,7 +29,7 @@ abbrev pub Ends : {X : Type 0} → Result X CheckFault → Derivation → Type 0
 Ends (Ok x) end = end ≡ Derived
 Ends (Err e) end = Stops e end
 
--- an answer other than want of memory is this refusal
+-- an answer other than out of memory is this refusal
 abbrev pub Refuses : CheckFault → Option Refusal → Type 0
 Refuses (fault.IdUsed id) refusal = refusal ≡ Some (IdUsed id)
 Refuses (fault.UnknownHint id) refusal = refusal ≡ Some (UnknownHint id)

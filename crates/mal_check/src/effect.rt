@@ -50,7 +50,7 @@ fn effect_of_lits(trues: &Trues, lits: &[Lit]) -> Effect
     }
 }
 
-/// What a clause does of which two literals are left and these stand behind them, where none before these is true.
+/// What a clause does of which two literals are left and these stand after them, where none before these is true.
 fn effect_of_more(trues: &Trues, behind: &[Lit]) -> Effect
     ensures { effect_seen result ≡ (if list_any (is_true trues.now) behind.now then Passes else LeavesMore) }
 {

@@ -1,4 +1,4 @@
--- What is told of a text whose first fault is on a line, whatever stands behind that line.
+-- What is told of a text whose first fault is on a line, whatever stands after that line.
 use Rattle.std.proofs.Common.{◌≡◌, ℕ, suc, Bool, true, false, cond, List, [], ◌∷◌, ◌++◌, length, codes, None, Result, Ok, Err, refl, sym, ap, ap₂, ◌∙◌}
 use Rattle.std.specs.List.{list_any}
 use Rattle.std.proofs.lemmas.Bool.{or_parts}
@@ -20,7 +20,7 @@ use Rattle.mal_claim.proofs.RowLemmas.{some-proof}
 abbrev Rows : Type 0
 Rows = List (List (List ℕ))
 
--- lines, the line `proof`, and lines behind it
+-- lines, the line `proof`, and lines after it
 abbrev cut : Rows → Rows → Rows
 cut before behind = before ++ (codes "proof" ∷ []) ∷ behind
 
@@ -45,7 +45,7 @@ none-left (row ∷ before) none = by_row (is_formula_row ending row) (none-left 
     by_row true ih = ih
     by_row false ih = none
 
--- the assumptions, with other lines behind the line `proof`
+-- the assumptions, with other lines after the line `proof`
 abbrev with_behind : Rows → Assumed → Result Assumed Fault
 with_behind behind a = Ok (record { assumptions = a.assumptions; rows = behind })
 
@@ -77,7 +77,7 @@ assumed-before variables line (row ∷ rows) behind none = by_row (is_proof_line
     by_row false e (Ok lits) = proof-after lits (suc line) rows behind both.1
     by_row false e (Err d) = refl
 
--- the claim of a text that is opened, with these lines behind the line `proof`
+-- the claim of a text that is opened, with these lines after the line `proof`
 abbrev closed : Rows → Opened → Result Claim Fault
 closed behind o = claim_of o.formula (record { assumptions = o.assumed.assumptions; rows = behind })
 

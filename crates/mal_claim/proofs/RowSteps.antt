@@ -19,7 +19,7 @@ Lines = Result (List Numbered) (ℕ × proof.Fault)
 abbrev Clauses : Type 0
 Clauses = List (Option (List ℕ))
 
--- the rows of a text that is cut behind its first line
+-- the rows of a text that is cut after its first line
 pub cut-rows : (text line behind : List ℕ) → lines_of text ≡ line ∷ lines_of behind → rows_of text ≡ words_of line ∷ rows_of behind
 cut-rows text line behind e = ap (map words_of) e
 
@@ -43,7 +43,7 @@ verdict-goes h h' ad ad' assumptions number last line row rows all cut e alike =
     by_rest (Ok others) = ap said_ok (alike assumptions others)
     by_rest (Err (n, f)) = refl
 
--- a refusal is the verdict where the rows behind have no fault
+-- a refusal is the verdict where the rows after have no fault
 pub refusal-said : (h : Holding) (ad : Clauses) (assumptions : List ℕ) (number last : ℕ) (read : Option ProofLine) (o : Option Verdict) (row : List (List ℕ)) (rows all : Rows) (w : Result Verdict Fault) → all ≡ row ∷ rows → row_at number last row ≡ Ok (read_of number last read) → IsVerdictOn o (line_at number read) h ad → first_fault (lines_from (suc number) (last_of last read) rows) ≡ Ok tt → verdict_after h ad assumptions (lines_from number last all) ≡ w → IsSaid o w
 refusal-said h ad assumptions number last read None row rows all w cut e is q so_far = tt
 refusal-said h ad assumptions number last read (Some v) row rows all w cut e is q so_far =

@@ -6,7 +6,7 @@ use Rattle.spec_lrat.specs.Reading.{Fault}
 use Rattle.spec_lrat.specs.Reading.Fault.{BadNumber, MissingZero, IdNotRising, NegativeHint}
 use Rattle.mal_claim.specs.declared.row.ProofFault.{ProofFault}
 
--- an answer other than want of memory is this fault of this line
+-- an answer other than out of memory is this fault of this line
 abbrev pub FailsAt : {Y : Type 0} → ℕ → LineFault → Result Y (ℕ × Fault) → Type 0
 FailsAt line answer.BadNumber read = read ≡ Err (line, BadNumber)
 FailsAt line answer.MissingZero read = read ≡ Err (line, MissingZero)

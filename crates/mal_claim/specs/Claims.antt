@@ -106,7 +106,7 @@ judged read = read >>= λ c. Ok (verdict_on c)
 abbrev pub said : List ℕ → Result Verdict Fault
 said text = judged (read_text text)
 
--- the same of lines among which one says `proof`, and of what stands behind that one
+-- the same of lines among which one says `proof`, and of what stands after that one
 abbrev pub said_of_rows : List (List (List ℕ)) → Result Verdict Fault
 said_of_rows rows = judged (read_lines rows)
 

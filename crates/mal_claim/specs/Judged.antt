@@ -13,7 +13,7 @@ use Rattle.mal_claim.specs.declared.denial.VerifyFault.{VerifyFault}
 use Rattle.mal_claim.specs.declared.denial.Denial.{Denial}
 use Rattle.mal_claim.specs.declared.denial.Denial.TheVariants as denial
 
--- this verdict is said; none is want of memory, which claims nothing
+-- this verdict is said; none is out of memory, which claims nothing
 abbrev pub IsSaid : Option Verdict → Result Verdict Fault → Type 0
 IsSaid None said = Unit {0}
 IsSaid (Some verdict) said = said ≡ Ok verdict
@@ -37,7 +37,7 @@ abbrev pub IsAlike : List Numbered → Holding → List (Option (List ℕ)) → 
 IsAlike lines held added held' added' =
     (assumptions : List ℕ) (others : List Numbered) → verdict_from held added assumptions (lines ++ others) ≡ verdict_from held' added' assumptions others
 
--- whatever lines follow these ones, this is the verdict on all of them, unless it is want of memory
+-- whatever lines follow these ones, this is the verdict on all of them, unless it is out of memory
 abbrev pub IsVerdictOn : Option Verdict → List Numbered → Holding → List (Option (List ℕ)) → Type 0
 IsVerdictOn None lines held added = Unit {0}
 IsVerdictOn (Some verdict) lines held added = (assumptions : List ℕ) (others : List Numbered) → verdict_from held added assumptions (lines ++ others) ≡ verdict

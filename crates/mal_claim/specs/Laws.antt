@@ -12,8 +12,8 @@ use Rattle.mal_claim.specs.Grammar.{Spells}
 abbrev pub SpelledIsRead : Type 0
 SpelledIsRead = (text : List ℕ) (claim : Claim) → Spells text claim ↔ (read_text text ≡ Ok claim)
 
--- nothing behind a faulty line counts. Texts with the same lines before the first line `proof` have the same first fault, if
--- it is on one of these lines; and if it is on a line of the proof, then with the same lines up to that one
+-- nothing after a faulty line counts. Texts with the same lines before the first line `proof` have the same first
+-- fault, if it is on one of these lines; and if it is on a line of the proof, then with the same lines up to that one
 abbrev pub OpeningFaultIsFirst : Type 0
 OpeningFaultIsFirst =
     (before behind others : List (List (List ℕ))) (text other : List ℕ) (line : ℕ) (fault : LineFault) → list_any is_proof_line before ≡ false

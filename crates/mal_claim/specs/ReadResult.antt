@@ -23,7 +23,7 @@ use Rattle.mal_claim.specs.declared.opened as code
 use Rattle.mal_claim.specs.declared.fault.ClaimFault.{ClaimFault}
 use Rattle.mal_claim.specs.declared.fault.ClaimFault.TheVariants as claimed
 
--- the fault of a proof's line, none for want of memory
+-- the fault of a proof's line, none when out of memory
 abbrev pub in_line : ℕ → declared.LineFault → Option claim.Fault
 in_line line lrat.BadNumber = Some (InProof line proof.Fault.BadNumber)
 in_line line lrat.MissingZero = Some (InProof line proof.Fault.MissingZero)
@@ -31,7 +31,7 @@ in_line line (lrat.IdNotRising last id) = Some (InProof line (proof.Fault.IdNotR
 in_line line lrat.NegativeHint = Some (InProof line proof.Fault.NegativeHint)
 in_line line lrat.OutOfMemory = None
 
--- the fault of a text, none for want of memory
+-- the fault of a text, none when out of memory
 abbrev pub fault_of : ClaimFault → Option claim.Fault
 fault_of claimed.NoProof = Some NoProof
 fault_of (claimed.Formula line fault) = Some (InFormula line fault)
@@ -42,7 +42,7 @@ fault_of claimed.OutOfMemory = None
 abbrev pub Gives : {X Y : Type 0} → (X → Y) → Result X ClaimFault → Result Y claim.Fault → Type 0
 Gives view answer read = GivesBy fault_of view answer read
 
--- the verdict on a proof of which a line is refused so, none for want of memory
+-- the verdict on a proof of which a line is refused so, none when out of memory
 abbrev pub refused : ℕ → Option Refusal → Option Verdict
 refused line None = None
 refused line (Some refusal) = Some (Refused line refusal)

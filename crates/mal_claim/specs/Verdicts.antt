@@ -9,7 +9,7 @@ use Rattle.mal_claim.specs.Proofs.Verdict.{Verified, Refused, NoGoal}
 use Rattle.mal_claim.specs.declared.denial.VerifyFault.{VerifyFault}
 use Rattle.mal_claim.specs.declared.denial.VerifyFault.TheVariants as answer
 
--- the refusal that a fault of the checker is, none for want of memory
+-- the refusal that a fault of the checker is, none when out of memory
 abbrev pub refusal_of : CheckFault → Option Refusal
 refusal_of (fault.IdUsed id) = Some (IdUsed id)
 refusal_of (fault.UnknownHint id) = Some (UnknownHint id)
@@ -25,7 +25,7 @@ IsFault line (fault.HintNotUnit id) e = e ≡ answer.Refused line (fault.HintNot
 IsFault line fault.NoContradiction e = e ≡ answer.Refused line fault.NoContradiction
 IsFault line fault.OutOfMemory e = e ≡ answer.OutOfMemory
 
--- the verdict is this refusal; want of memory is never told as one
+-- the verdict is this refusal; out of memory is never told as one
 abbrev pub IsVerdict : ℕ → Option Refusal → Verdict → Type 0
 IsVerdict line None said = ⊥
 IsVerdict line (Some refusal) said = said ≡ Refused line refusal
@@ -35,7 +35,7 @@ Denies (answer.Refused line fault) said = IsVerdict line (refusal_of fault) said
 Denies answer.NoGoal said = said ≡ NoGoal
 Denies answer.OutOfMemory said = Unit {0}
 
--- Ok says that the proof is verified, any other answer but want of memory why it is not
+-- Ok says that the proof is verified, any other answer but out of memory why it is not
 abbrev pub Says : {X : Type 0} → Result X VerifyFault → Verdict → Type 0
 Says (Ok x) said = said ≡ Verified
 Says (Err e) said = Denies e said

@@ -15,9 +15,9 @@ use mal_lrat::Line;
 use mal_text::first_line;
 use std::alloc::Global;
 
-/// Gives a checker the lines of a proof's text, each as it is read, up to the first one that is refused, where `last` is
-/// the number of original clauses. The rows behind that one are read all the same, since what is no line of a proof comes
-/// before a refusal.
+/// Gives a checker the lines of a proof's text, each as it is read, up to the first one that is refused, where `last`
+/// is the number of original clauses. The rows after that one are read all the same, since what is no line of a proof
+/// comes before a refusal.
 pub fn check_rows(
     alloc: Global,
     checker: &mut Checker,
@@ -51,7 +51,7 @@ pub fn check_rows(
     }
 }
 
-/// Gives a checker the line of a row, if it spells one. Whatever lines are behind, the verdict on all of them is that of
+/// Gives a checker the line of a row, if it spells one. Whatever lines are after, the verdict on all of them is that of
 /// the checker after the line, or the refusal.
 fn take_line(checker: &mut Checker, number: u64, line: Option<Line>) -> Result<(), VerifyFault>
     ensures taken { OnOk result
@@ -69,7 +69,7 @@ fn take_line(checker: &mut Checker, number: u64, line: Option<Line>) -> Result<(
     }
 }
 
-/// The refusal of a line, or want of memory.
+/// The refusal of a line, or out of memory.
 fn refused(line: u64, fault: CheckFault) -> VerifyFault
     ensures { IsFault line fault result }
 {

@@ -13,7 +13,7 @@ pub fn spelled_is_read()
     ensures { SpelledIsRead }
 {}
 
-/// Nothing behind the first faulty line of a text counts, whether it stands before the line `proof` or behind it.
+/// Nothing after the first faulty line of a text counts, whether it stands before the line `proof` or after it.
 pub fn nothing_behind_counts()
     ensures opening { OpeningFaultIsFirst }
     ensures proof { ProofFaultIsFirst }

@@ -8,7 +8,7 @@ use mal_base::LineFault;
 use mal_dimacs::DimacsFault;
 use std::alloc::AllocError;
 
-/// Why a text is no claim: its first fault, or want of memory.
+/// Why a text is no claim: its first fault, or out of memory.
 #[derive(Clone, Copy, Debug, Drop)]
 pub enum ClaimFault {
     /// No line is the one word `proof`.

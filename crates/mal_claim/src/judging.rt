@@ -12,13 +12,13 @@ use crate::reading::{has_proof, read_opening};
 use mal_check::Checker;
 use std::alloc::Global;
 
-/// Checks the claim that a text spells: a formula by DIMACS CNF, maybe a line `a`, literals and 0, then the line `proof`,
-/// and the lines of a proof, each of which is checked as it is read. Ok says that the lines refute the formula under the
-/// assumptions, so nothing satisfies both.
+/// Checks the claim that a text spells: a formula by DIMACS CNF, maybe a line `a`, literals and 0, then the line
+/// `proof`, and the lines of a proof, each of which is checked as it is read. Ok says that the lines refute the formula
+/// under the assumptions, so nothing satisfies both.
 ///
 /// Errors: `NoClaim` where no line is the one word `proof`, and else with the first fault of the text, from its
 /// beginning, with its line; lines of the proof are counted from 1 after the line `proof`. `NotVerified` where the text
-/// has no fault, with the first line that is refused, or where the lines do not reach the goal. Want of memory may come
+/// has no fault, with the first line that is refused, or where the lines do not reach the goal. Out of memory may come
 /// at any time.
 pub fn check(alloc: Global, text: &[u8]) -> Result<(), Denial>
     requires { length text.now < 2 ^ 63 }

@@ -2,6 +2,7 @@
 
 ghost use Rattle.std.specs.Prelude.{◌≡◌, ◌≤◌, ◌<◌, ◌+◌, ◌^◌, length, IfOk};
 ghost use Rattle.std.specs.List.{list_any};
+ghost use Rattle.mal_base.specs.Limits.{limits};
 ghost use Rattle.spec_dimacs.specs.Rows.{rows_of};
 ghost use Rattle.mal_claim.specs.{Claims.{is_proof_line, assumed, to_proof, opened}, ReadResult.{Gives, IsAssumed, opened_seen, seen_assumed}};
 
@@ -50,7 +51,7 @@ fn read_assumptions(
     line: u64,
     variables: u32,
 ) -> Result<(Vec<Lit>, &[u8]), ClaimFault>
-    requires variables { variables ≤ 65536 }
+    requires variables { variables ≤ limits.variables }
     requires short { line + length text.now < 2 ^ 63 }
     ensures value { Gives (λ t. seen_assumed t.0.items t.1.now) result (assumed variables line (rows_of text.now)) }
     ensures shorter { IfOk result (λ t. length t.1.now ≤ length text.now) }

@@ -10,7 +10,7 @@ use mal_dimacs::is_passed;
 use mal_lrat::{Line, LineFault, read_line};
 use std::alloc::Global;
 
-/// The line of a text that is no line of a proof, and why; or where memory was wanting.
+/// The line of a text that is no line of a proof, and why; or where memory ran out.
 #[derive(Clone, Copy, Debug, Drop)]
 pub struct ProofFault {
     pub line: u64,

@@ -13,7 +13,7 @@ use mal_text::{end_line, put_decimal, put_word};
 use std::alloc::{AllocError, Global};
 
 /// The line that tells a fault of a text, as `fault: no proof`, `fault: formula line 3 Range` or
-/// `fault: proof line 1 MissingZero`, with its line end. None exactly for want of memory.
+/// `fault: proof line 1 MissingZero`, with its line end. None exactly when out of memory.
 pub fn fault_line(alloc: Global, fault: ClaimFault) -> Result<Option<Vec<u8>>, AllocError>
     ensures { IfOk result
         (λ o. MatchOption o (fault_of fault ≡ None) (λ text. TellsBy fault_line (fault_of fault) text.items)) }
@@ -29,7 +29,7 @@ pub fn fault_line(alloc: Global, fault: ClaimFault) -> Result<Option<Vec<u8>>, A
 }
 
 /// The line that tells why a proof is not verified, as `fault: proof line 1 UnknownHint 9` or `fault: proof goal`, with
-/// its line end. None exactly for want of memory.
+/// its line end. None exactly when out of memory.
 pub fn verdict_line(alloc: Global, fault: VerifyFault) -> Result<Option<Vec<u8>>, AllocError>
     ensures { IfOk result
         (λ o. MatchOption o (verdict_in fault ≡ None) (λ text. TellsVerdict (verdict_in fault) text.items)) }
@@ -55,7 +55,7 @@ fn no_goal(alloc: Global) -> Result<Vec<u8>, AllocError>
     Vec::from_slice(alloc, b"fault: proof goal\n")
 }
 
-/// The line that tells a fault of a line of the proof; none for want of memory.
+/// The line that tells a fault of a line of the proof; none when out of memory.
 fn proof_line(
     alloc: Global,
     line: u64,
@@ -87,7 +87,7 @@ fn not_rising_line(alloc: Global, line: u64, last: u64, id: u64) -> Result<Vec<u
     Ok(text)
 }
 
-/// The line that tells why a line of the proof is refused; none for want of memory.
+/// The line that tells why a line of the proof is refused; none when out of memory.
 fn refusal_line(alloc: Global, line: u64, fault: CheckFault) -> Result<Option<Vec<u8>>, AllocError>
     ensures { IfOk result
         (λ o. MatchOption o (refused line (refusal_of fault) ≡ None)

@@ -12,7 +12,7 @@ use Rattle.spec_job.specs.SoloMachine.{SoloMachine}
 use Rattle.spec_hall.specs.Events.{Event, bare}
 use Rattle.spec_script.specs.Formed.{IsScript}
 use Rattle.spec_script.specs.Grammar.{Spells}
-use Rattle.spec_script.specs.Limits.{served}
+use Rattle.mal_base.specs.Limits.{limits}
 use Rattle.spec_script.specs.Script.{ScriptedJob, Scripted, revisions}
 use Rattle.spec_run.specs.Complete.{script_events}
 use Rattle.spec_run.specs.Run.{replies_from, text_or_none}
@@ -32,7 +32,7 @@ use Rattle.mal_answer.specs.declared.answer.Texts.{Texts}
 use Rattle.mal_cli.specs.Clusters.{AreThere, HasDriven, dealt_to}
 
 -- what a run of a script gives is given for the text that spells it
-pub cluster-answered : (halls workers every : ℕ) (text : List ℕ) (s : Scripted) (t : Texts) → Spells served text s → IsClusterRunOf halls workers every s (logged t.log.items) t.out.items → IsAnswerTo (clustering halls workers every) text (Ok t)
+pub cluster-answered : (halls workers every : ℕ) (text : List ℕ) (s : Scripted) (t : Texts) → Spells limits text s → IsClusterRunOf halls workers every s (logged t.log.items) t.out.items → IsAnswerTo (clustering halls workers every) text (Ok t)
 cluster-answered halls workers every text s t spelled run = (s, spelled, run)
 
 pub ruleset cluster_lemmas = (cluster-answered, cluster-refused)
@@ -48,11 +48,11 @@ next (x ∷ xs) zero low = (x, refl)
 next (x ∷ xs) (suc n) low = next xs n (omega (arith, low))
 
 -- what is dealt to a hall when all jobs were gone over is a script
-pub dealt-all : (halls n i : ℕ) (s : Scripted) (js got : List ScriptedJob) → IsScript served s → js ≡ s.jobs → length js ≤ i → got ++ dealt_from halls n i (drop i js) ≡ dealt_from halls n 0 js → IsScript served (record { jobs = got })
+pub dealt-all : (halls n i : ℕ) (s : Scripted) (js got : List ScriptedJob) → IsScript limits s → js ≡ s.jobs → length js ≤ i → got ++ dealt_from halls n i (drop i js) ≡ dealt_from halls n 0 js → IsScript limits (record { jobs = got })
 dealt-all halls n i s js got formed are high is =
     let none : dealt_from halls n i (drop i js) ≡ [] = ap (dealt_from halls n i) (drop_all i js high) in
     let all : got ≡ dealt_from halls n 0 s.jobs = sym (append-nil got) ∙ (ap (λ (xs : List ScriptedJob). got ++ xs) (sym none) ∙ (is ∙ ap (dealt_from halls n 0) are)) in
-    subst (λ (xs : List ScriptedJob). IsScript served (record { jobs = xs })) (sym all) (dealt-is_script halls n s formed)
+    subst (λ (xs : List ScriptedJob). IsScript limits (record { jobs = xs })) (sym all) (dealt-is_script halls n s formed)
 
 -- the scripts of the halls of the first so many places
 abbrev pub first_dealt : ℕ → Scripted → ℕ → List Scripted
@@ -86,10 +86,10 @@ posted-all halls workers n s hs all few are =
     (are ∙ (ap (λ (m : ℕ). map script_events (first_dealt halls s m)) all ∙ ap (map script_events) (all-dealt halls s few)))
 
 -- and they are a cluster
-pub posted-kept : (halls workers : ℕ) (s : Scripted) (hs : List HallView) → 2 ≤ halls → halls ≤ 8 → 1 ≤ workers → workers ≤ 64 → IsScript served s → All (λ h. h.workers ≡ workers) hs → cluster_of workers hs [] ≡ posted halls workers s → IsKept workers hs []
+pub posted-kept : (halls workers : ℕ) (s : Scripted) (hs : List HallView) → 2 ≤ halls → halls ≤ 8 → 1 ≤ workers → workers ≤ 64 → IsScript limits s → All (λ h. h.workers ≡ workers) hs → cluster_of workers hs [] ≡ posted halls workers s → IsKept workers hs []
 posted-kept halls workers s hs two eight some bound formed each are = record { each = each; cluster = subst IsCluster (sym are) (posted-is_cluster halls workers s two eight some bound formed) }
 
--- the replies to the revisions of a job from a place on: that to the one there, and those behind it
+-- the replies to the revisions of a job from a place on: that to the one there, and those after it
 replied-next : (j : ScriptedJob) (k : Key) (s : SoloMachine) (n : ℕ) → n < length (revisions j) → replies_from k (n + 1) s (drop n (revisions j)) ≡ text_or_none (reply k (n + 1) s) ++ replies_from k (n + 1 + 1) s (drop (n + 1) (revisions j))
 replied-next j k s n low =
     ap (replies_from k (n + 1) s) (next (revisions j) n low).1
@@ -107,12 +107,12 @@ unfolding cluster_replies
 replied-all s c js i text are is high = is ∙ ap (flat_map (moved_replies c)) (take_all i js high ∙ are)
 
 -- rounds lead from a cluster that got the jobs of a script to one
-driven-is : (halls workers every : ℕ) (s : Scripted) (before end : Cluster) → 2 ≤ halls → halls ≤ 8 → 1 ≤ workers → workers ≤ 64 → IsScript served s → before ≡ posted halls workers s → HasDriven every before end → IsCluster end
+driven-is : (halls workers every : ℕ) (s : Scripted) (before end : Cluster) → 2 ≤ halls → halls ≤ 8 → 1 ≤ workers → workers ≤ 64 → IsScript limits s → before ≡ posted halls workers s → HasDriven every before end → IsCluster end
 driven-is halls workers every s before end two eight some bound formed are driven =
     rounds-keep.rounds every before end driven.0 (subst IsCluster (sym are) (posted-is_cluster halls workers s two eight some bound formed)) driven.1
 
 -- in which each job of the script is in some hall
-pub driven-there : (halls workers every : ℕ) (s : Scripted) (before end : Cluster) → 2 ≤ halls → halls ≤ 8 → 1 ≤ workers → workers ≤ 64 → IsScript served s → before ≡ posted halls workers s → HasDriven every before end → AreThere s end
+pub driven-there : (halls workers every : ℕ) (s : Scripted) (before end : Cluster) → 2 ≤ halls → halls ≤ 8 → 1 ≤ workers → workers ≤ 64 → IsScript limits s → before ≡ posted halls workers s → HasDriven every before end → AreThere s end
 driven-there halls workers every s before end two eight some bound formed are driven =
     let is : IsCluster end = driven-is halls workers every s before end two eight some bound formed are driven in
     let went : HasDriven every (posted halls workers s) end = subst (λ (c : Cluster). HasDriven every c end) are driven in
@@ -126,7 +126,7 @@ logged-is workers (h ∷ hs) each =
     ∙ ap (λ (x : List ℕ). history_text workers (map bare h.events) ++ x) (logged-is workers hs (All-tail (λ (v : HallView). v.workers ≡ workers) h hs each))
 
 -- what was run in a cluster
-pub cluster-run : (halls workers every : ℕ) (s : Scripted) (before end : Cluster) (hs : List HallView) (out : List ℕ) → 2 ≤ halls → halls ≤ 8 → 1 ≤ workers → workers ≤ 64 → IsScript served s → before ≡ posted halls workers s → HasDriven every before end → out ≡ cluster_replies s end → histories hs ≡ end.halls → All (λ h. h.workers ≡ end.workers) hs → IsClusterRunOf halls workers every s (logged hs) out
+pub cluster-run : (halls workers every : ℕ) (s : Scripted) (before end : Cluster) (hs : List HallView) (out : List ℕ) → 2 ≤ halls → halls ≤ 8 → 1 ≤ workers → workers ≤ 64 → IsScript limits s → before ≡ posted halls workers s → HasDriven every before end → out ≡ cluster_replies s end → histories hs ≡ end.halls → All (λ h. h.workers ≡ end.workers) hs → IsClusterRunOf halls workers every s (logged hs) out
 cluster-run halls workers every s before end hs out two eight some bound formed are driven told histories_are each = record {
   rounds = went.0;
   end = end;

@@ -7,7 +7,8 @@ ghost use Rattle.spec_cluster.specs.Run.{cluster_replies, moved_replies, posted}
 ghost use Rattle.spec_cluster.specs.Visits.{all_of};
 ghost use Rattle.spec_job.specs.{Replies.{reply}, SoloMachine.{solo}};
 ghost use Rattle.spec_run.specs.{Complete.{key_of_job, script_events}, Run.{text_or_none}};
-ghost use Rattle.spec_script.specs.{Formed.{IsScript}, Limits.{served}, Script.{revisions}};
+ghost use Rattle.mal_base.specs.Limits.{limits};
+ghost use Rattle.spec_script.specs.{Formed.{IsScript}, Script.{revisions}};
 
 use mal_answer::{Complaint, Texts, script_of};
 use mal_cluster::Cluster;
@@ -79,7 +80,7 @@ fn posted_in(
     requires eight { halls ≤ 8 }
     requires some { 1 ≤ workers }
     requires bound { workers ≤ 64 }
-    ensures formed { IsScript served script.now }
+    ensures formed { IsScript limits script.now }
     ensures posted { IfOk result (λ c. c ≡ posted halls workers script.now) }
 {
     // For the proof.
@@ -178,7 +179,7 @@ fn replies(alloc: Global, cluster: &Cluster, script: &Script) -> Result<Vec<u8>,
     Ok(out)
 }
 
-/// Puts the replies to the revisions of a job behind the others.
+/// Puts the replies to the revisions of a job after the others.
 fn put_replies(cluster: &Cluster, job: &ScriptJob, out: &mut Vec<u8>) -> Result<(), AllocError>
     requires few { length (revisions job.now) ≤ 256 }
     requires there { IsThere job.now cluster.now }
@@ -190,7 +191,7 @@ fn put_replies(cluster: &Cluster, job: &ScriptJob, out: &mut Vec<u8>) -> Result<
     Ok(())
 }
 
-/// Puts the reply to a revision of a job behind the others, nothing where there is none.
+/// Puts the reply to a revision of a job after the others, nothing where there is none.
 fn put_reply(
     cluster: &Cluster,
     job: &ScriptJob,

@@ -26,7 +26,7 @@ use std::thread::Threads;
 /// |---|---|
 /// | `run --workers N` | The script that `source` gives is run with N workers, 1 to 64. The text of the history goes to `log`, the replies go to `out`. |
 /// | `check` | The proof of the claim that `source` gives is checked. The line `s VERIFIED` goes to `out`. |
-/// | `replay` | The history that `source` gives behind its script is replayed. The replies go to `out`. |
+/// | `replay` | The history that `source` gives after its script is replayed. The replies go to `out`. |
 /// | `gen --seed S --jobs N` | The script of the seed S with N jobs goes to `out`. |
 /// | `json` | The script that the description that `source` gives spells goes to `out`. |
 /// | `cluster --halls H --workers N --every K` | The script that `source` gives is run in H halls, 2 to 8, of N workers each, 1 to 64. After each K slices of every hall, 1 to 1,000, its first live job goes on to the next. The texts of the histories go to `log`, hall by hall, the replies to `out`. |

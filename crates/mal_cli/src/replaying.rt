@@ -70,7 +70,7 @@ fn no_replay(alloc: Global, fault: ReplayFault) -> Complaint
     }
 }
 
-/// The line that tells why a history is not replayed; none for want of memory.
+/// The line that tells why a history is not replayed; none when out of memory.
 fn replay_line(alloc: Global, fault: ReplayFault) -> Result<Option<Vec<u8>>, AllocError>
     ensures { IfOk result (λ o. MatchOption o (fault ≡ OutOfMemory) (λ text. IsReplayText fault text.items)) }
 {

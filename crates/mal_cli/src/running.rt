@@ -7,10 +7,9 @@ ghost use Rattle.mal_pool.specs.Posts.{HasRun};
 ghost use Rattle.spec_run.specs.Run.{IsRun, replies};
 ghost use Rattle.spec_script.specs.Script.{Scripted};
 
-use crate::run::run_served;
 use mal_answer::{Complaint, Texts, script_of};
 use mal_hall::Hall;
-use mal_pool::{Gate, replies, replies_by, run_alone};
+use mal_pool::{Gate, replies, replies_by, run_all, run_alone};
 use mal_script::Script;
 use std::alloc::{AllocError, Global};
 use std::sync::Wait;
@@ -52,7 +51,7 @@ pub fn run_script<R: Threads + Wait + Sync, G: Gate>(
     if workers == 1 {
         return run_script_alone(alloc, script);
     }
-    run_script_served(rt, alloc, script, workers, gate)
+    run_script_by_many(rt, alloc, script, workers, gate)
 }
 
 /// Runs a script with one worker, and makes the texts of its history and its replies.
@@ -70,7 +69,7 @@ fn run_script_alone(alloc: Global, script: &Script) -> Result<Texts, AllocError>
 }
 
 /// Runs a script with 2 to 64 workers, and makes the texts of its history and, with as many threads, of its replies.
-fn run_script_served<R: Threads + Wait + Sync, G: Gate>(
+fn run_script_by_many<R: Threads + Wait + Sync, G: Gate>(
     rt: &R,
     alloc: Global,
     script: &Script,
@@ -82,7 +81,7 @@ fn run_script_served<R: Threads + Wait + Sync, G: Gate>(
     ensures { IfOk result
         (λ t. IsStoppedRunOf (stops_of (G.stops gate.now)) workers script.now (logged t.log.items) t.out.items) }
 {
-    let hall = run_served(rt, alloc, script, workers, gate)?;
+    let hall = run_all(rt, alloc, script, workers, gate)?;
     match replies_by(rt, alloc, &hall, script, workers) {
         Ok(out) => texts_of(alloc, hall, out),
         Err(error) => {

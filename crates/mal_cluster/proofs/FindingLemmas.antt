@@ -7,9 +7,8 @@ use Rattle.spec_hall.specs.Turns.{first_live}
 use Rattle.mal_hall.specs.HallView.{HallView}
 use Rattle.spec_cluster.specs.Clusters.{home, is_there}
 use Rattle.mal_cluster.specs.Kept.{histories}
-use Rattle.mal_cluster.specs.Turning.{chosen_key}
 
--- a place behind so many halls
+-- a place after so many halls
 abbrev pub later : ℕ → Option ℕ → Option ℕ
 later n o = option_map (λ m. m + n) o
 
@@ -53,13 +52,12 @@ pub firsts-are : (halls : List HallView) → firsts halls ≡ map first_live (hi
 firsts-are [] = refl
 firsts-are (h ∷ hs) = ap (λ (ks : List (Option Key)). first_live h.events ∷ ks) (firsts-are hs)
 
-pub firsts-more : (halls : List HallView) (n : ℕ) (h : HallView) (one : Option (List ℕ × List ℕ)) (old now : List (Option (List ℕ × List ℕ))) → n < length halls → h ≡ get_or halls n h → chosen_key one ≡ first_live h.events → map chosen_key old ≡ firsts (take n halls) → now ≡ old ++ one ∷ [] → map chosen_key now ≡ firsts (take (n + 1) halls)
+pub firsts-more : (halls : List HallView) (n : ℕ) (h : HallView) (one : Option Key) (old now : List (Option Key)) → n < length halls → h ≡ get_or halls n h → one ≡ first_live h.events → old ≡ firsts (take n halls) → now ≡ old ++ one ∷ [] → now ≡ firsts (take (n + 1) halls)
 firsts-more halls n h one old now low there is was grown =
-    ap (map chosen_key) grown
-    ∙ (map-append chosen_key old (one ∷ [])
-    ∙ (ap (λ (ks : List (Option Key)). ks ++ chosen_key one ∷ []) was
+    grown
+    ∙ (ap (λ (ks : List (Option Key)). ks ++ one ∷ []) was
     ∙ (ap (λ (k : Option Key). firsts (take n halls) ++ k ∷ []) (is ∙ ap (λ (x : HallView). first_live x.events) there)
-    ∙ sym (map_more (λ (x : HallView). first_live x.events) halls n h low))))
+    ∙ sym (map_more (λ (x : HallView). first_live x.events) halls n h low)))
 
 -- halls without events
 pub empty-more : (n : ℕ) (old now : List HallView) (h : HallView) → histories old ≡ replicate n [] → h.events ≡ [] → now ≡ old ++ h ∷ [] → histories now ≡ replicate (n + 1) []

@@ -6,6 +6,7 @@ use Rattle.std.proofs.lemmas.Bool.{and_from, lt-ltb}
 use Rattle.std.proofs.lemmas.Bool.Decides.{Decides-eqb}
 use Rattle.std.proofs.lemmas.List.Sums.{sum_by-cons}
 use Rattle.std.proofs.lemmas.List.{get_or-set_same, length-append, length-set, set-get_or}
+use Rattle.mal_base.specs.Limits.{limits}
 use Rattle.mal_base.specs.declared.hall_fault.AdmitFault.{AdmitFault}
 use Rattle.mal_base.specs.declared.hall_fault.AdmitFault.TheVariants as admitting
 use Rattle.mal_base.specs.declared.hall_fault.PackFault.TheVariants as packing
@@ -95,8 +96,8 @@ module _ (w : ℕ) (halls : List HallView) (moves : List Move) (k : Key) (from a
 
     pub refused : (fault : AdmitFault) → IsAdmission hall.events k (Err fault) → IsMoving c k to (Err (refusal_of fault)) c
     refused admitting.Present is = absurd (placed.2 (kept.cluster.one_home k at from (ap (is_there k) (history-at halls at hall placed.1 there) ∙ job-there k hall.events is.0 is.1) here.there))
-    refused admitting.TenantFull is = (from, record { may = may-try; fresh = ap (is_named k) there-is ∙ is.1; full = subst (λ (h : List Event). 64 ≤ jobs_of k.tenant (names_of h)) (sym there-is) is.2 }, refl)
-    refused admitting.HallFull is = (from, record { may = may-try; none = ap (λ (h : List Event). jobs_of k.tenant (names_of h)) there-is ∙ is.2; full = subst (λ (h : List Event). 64 ≤ tenant_count (names_of h)) (sym there-is) is.3 }, refl)
+    refused admitting.TenantFull is = (from, record { may = may-try; fresh = ap (is_named k) there-is ∙ is.1; full = subst (λ (h : List Event). limits.jobs_of_tenant ≤ jobs_of k.tenant (names_of h)) (sym there-is) is.2 }, refl)
+    refused admitting.HallFull is = (from, record { may = may-try; none = ap (λ (h : List Event). jobs_of k.tenant (names_of h)) there-is ∙ is.2; full = subst (λ (h : List Event). limits.tenants ≤ tenant_count (names_of h)) (sym there-is) is.3 }, refl)
     refused admitting.OutOfMemory is = absurd is
 
     pub may-hand : MayCome hall.events k → MayHand halls k from at
@@ -115,7 +116,7 @@ module _ (w : ℕ) (halls : List HallView) (moves : List Move) (k : Key) (from a
     may-arrive : MayCome hall.events k → MayArrive (hall_at hs (to - 1)) k (brought_by k (hall_at hs from))
     may-arrive may = subst (λ (n : ℕ). MayArrive (hall_at hs n) k (brought_by k (hall_at hs from))) (sym back) (comes-arrives c k from at kept.cluster here.there placed.2 (may-come k (hall_at hs at) (subst (λ (h : List Event). MayCome h k) (sym (history-at halls at hall placed.1 there)) may)))
 
-    -- memory was wanting
+    -- memory ran out
     pub wanted : MayCome hall.events k → (now : List HallView) (noted : List Move) → histories now ≡ hs → noted ≡ moves → IsMoving c k to (Err moving.OutOfMemory) (cluster_of w now noted)
     wanted may now noted same old = (from, record { may = may-try; arrives = may-arrive may }, ap (λ (xs : List (List Event)). let x : Cluster = record { workers = w; halls = xs; moves = noted } in x) same ∙ ap (λ (ms : List Move). cluster_of w halls ms) old)
 
@@ -196,7 +197,7 @@ none-found : (s : SoloMachine) (is : List ℕ) → starts_out s.places ≡ 0 →
 none-found s [] none = refl
 none-found s (i ∷ is) none = ap (λ (b : Bool). cond b (Some i) (find (λ n. is_some (place_at s n).out) is)) (none-at s.places i none) ∙ none-found s is none
 
--- a job that may leave and has room is packed and admitted, unless memory is wanting
+-- a job that may leave and has room is packed and admitted, unless memory runs out
 module _ (halls : List HallView) (k : Key) (from to : ℕ) (may : MayHand halls k from to) (hall : HallView) where
   module _ (here : hall ≡ get_or halls from hall) where
     past-is : hall_at (histories halls) from ≡ hall.events

@@ -3,7 +3,7 @@ use Rattle.std.proofs.Common.{◌≡◌, ◌≢◌, ℕ, zero, suc, ◌+◌, ◌
 use Rattle.std.specs.Prelude.{OnErr, OnOk}
 use Rattle.std.specs.List.{list_any}
 use Rattle.std.proofs.lemmas.Bool.{both_ways, cases_lt, or_from}
-use Rattle.std.proofs.lemmas.List.{drop_all, drop_more, get_or-map, get_or-set_same, length-map, length-set}
+use Rattle.std.proofs.lemmas.List.{drop_all, drop_more, get_or_default, get_or-set_same, length-map, length-set}
 use Rattle.std.proofs.lemmas.List.Folds.{list_any-append}
 use Rattle.mal_base.specs.declared.hall_fault.PickFault.TheVariants.{OutOfMemory}
 use Rattle.spec_job.specs.KeyedJob.{Key}
@@ -32,7 +32,7 @@ use Rattle.spec_cluster.proofs.HallLemmas.{at-hall, home-found, home-none}
 use Rattle.spec_cluster.proofs.MoveLemmas.{try-places}
 use Rattle.spec_cluster.proofs.RoundLemmas.{AreThere, all-there, goes-there}
 use Rattle.mal_cluster.specs.Kept.{IsKept, cluster_of, histories}
-use Rattle.mal_cluster.specs.Turning.{AreTurning, HasTurns, HasTurnsAt, chosen_key}
+use Rattle.mal_cluster.specs.Turning.{AreTurning, HasTurns, HasTurnsAt}
 use Rattle.mal_cluster.proofs.KeptLemmas.{cluster-set, histories-at, histories-length, history-at, kept-set}
 
 -- one turn of a hall, of its slices
@@ -167,7 +167,7 @@ begun-more a b c one two = record {
 pub begun-same : (a b c : Cluster) → HasBegun a b → c ≡ b → HasBegun a c
 begun-same a b c begun same = subst (HasBegun a) (sym same) begun
 
--- each history behind a move
+-- each history after a move
 abbrev GrowsTo : List Event → List Event → Type 0
 GrowsTo past now = (later : List Event) × (now ≡ past ++ later)
 
@@ -380,10 +380,10 @@ pub carrying-last : (chosen : List (Option Key)) (from : ℕ) (c now : Cluster) 
 carrying-last chosen from c now high is = sym (ap (λ (ks : List (Option Key)). carried ks from now) (drop_all from chosen high)) ∙ is.going
 
 -- the key that was chosen at a place
-pub chosen-at : (chosen : List (Option (List ℕ × List ℕ))) (from : ℕ) (o : Option (List ℕ × List ℕ)) → from < length chosen → o ≡ get_or chosen from o → get_or (map chosen_key chosen) from None ≡ chosen_key o
-chosen-at chosen from o low there = get_or-map chosen_key chosen from o None low ∙ ap chosen_key (sym there)
+pub chosen-at : (chosen : List (Option Key)) (from : ℕ) (o : Option Key) → from < length chosen → o ≡ get_or chosen from o → get_or chosen from None ≡ o
+chosen-at chosen from o low there = get_or_default chosen from None o low ∙ sym there
 
--- rounds, one behind the other
+-- rounds, one after the other
 abbrev pub GoRound : ℕ → Cluster → Cluster → Type 0
 GoRound every c now = (rest : List Cluster) (end : Cluster) → AreRounds every now rest end → (rounds : List Cluster) × AreRounds every c rounds end
 
@@ -397,11 +397,8 @@ pub round-last : (every : ℕ) (c now : Cluster) → is_live now ≡ false → G
 round-last every c now live go = go [] now (refl, live)
 
 -- as many were chosen as there are halls
-pub chosen-count : (chosen : List (Option (List ℕ × List ℕ))) (halls : List (List Event)) → map chosen_key chosen ≡ map first_live halls → length chosen ≡ length halls
-chosen-count chosen halls same = sym (length-map chosen chosen_key) ∙ (ap (λ (ks : List (Option Key)). length ks) same ∙ length-map halls first_live)
-
-pub chosen-low : (chosen : List (Option (List ℕ × List ℕ))) (n : ℕ) → n < length chosen → n < length (map chosen_key chosen)
-chosen-low chosen n low = subst (λ (m : ℕ). n < m) (sym (length-map chosen chosen_key)) low
+pub chosen-count : (chosen : List (Option Key)) (halls : List (List Event)) → chosen ≡ map first_live halls → length chosen ≡ length halls
+chosen-count chosen halls same = ap (λ (ks : List (Option Key)). length ks) same ∙ length-map halls first_live
 
 pub carrying-first : (chosen : List (Option Key)) (c : Cluster) → chosen ≡ map first_live c.halls → IsCarrying chosen 0 c c
 carrying-first chosen c same = record { going = refl; gone = refl; there = subst (λ (ks : List (Option Key)). AreThere ks 0 c) (sym same) (all-there c); begun = begun-none c; size = refl }
@@ -411,7 +408,7 @@ pub err-then : {T E : Type 0} (P Q : Type 0) (r : Result T E) → (P → Q) → 
 err-then P Q (Ok x) f p = tt
 err-then P Q (Err e) f p = f p
 
--- a move that wanted for memory changed nothing
+-- a move that ran out of memory changed nothing
 pub wanting-same : (c after : Cluster) (k : Key) (to : ℕ) (answer : Result (Unit {0}) MoveFault) (fault : MoveFault) → answer ≡ Err fault → fault ≡ moving.OutOfMemory → IsMoving c k to answer after → after ≡ c
 wanting-same c after k to answer fault is memory call = (subst (λ (r : Result (Unit {0}) MoveFault). IsMoving c k to r after) (is ∙ ap (λ (f : MoveFault). Err f) memory) call).2
 

@@ -32,7 +32,7 @@ pub record MayHand (halls : List HallView) (k : Key) (from to : ℕ) : Type 0 wh
   pub leaves : (t : KeyedJob) × MayLeave (hall_at (histories halls) from) k t
   pub comes : MayCome (hall_at (histories halls) to) k
 
--- the histories behind its leave there and its arrival here
+-- the histories after its leave there and its arrival here
 abbrev pub handed : Key → ℕ → ℕ → List (List Event) → List (List Event)
 handed k from to hs = slice_set (slice_set hs from (hall_at hs from ++ Leave k ∷ [])) to (hall_at hs to ++ Arrive k (brought_by k (hall_at hs from)) ∷ [])
 

@@ -1,9 +1,6 @@
 -- Halls that take their turns.
-use Rattle.std.specs.Prelude.{◌≡◌, ℕ, ◌<◌, ◌≤◌, Bool, ◌==◌, not, List, ◌++◌, [], length, Option}
+use Rattle.std.specs.Prelude.{◌≡◌, ℕ, ◌<◌, ◌≤◌, Bool, ◌==◌, not, List, ◌++◌, [], length}
 use Rattle.std.specs.List.{list_any}
-use Rattle.std.specs.Option.{option_map}
-use Rattle.spec_job.specs.KeyedJob.{Key}
-use Rattle.spec_hall.specs.Dressed.{keyed}
 use Rattle.spec_hall.specs.Driven.{GrowsByTurns}
 use Rattle.spec_hall.specs.Events.{Event}
 use Rattle.spec_hall.specs.States.{leases, lives, states}
@@ -20,10 +17,6 @@ pub record HasTurns (workers : ℕ) (past now : List Event) : Type 0 where
 pub record HasTurnsAt (c : Cluster) (n : ℕ) (after : Cluster) : Type 0 where
   pub turns : HasTurns c.workers (hall_at c.halls n) (hall_at after.halls n)
   pub kept : after ≡ with_hall c n (hall_at after.halls n)
-
--- the key of a job that was chosen
-abbrev pub chosen_key : Option (List ℕ × List ℕ) → Option Key
-chosen_key o = option_map (λ x. keyed x.0 x.1) o
 
 -- whether a job is live in any of these histories
 abbrev pub any_live : List (List Event) → Bool

@@ -73,7 +73,7 @@ fn refusal(fault: AdmitFault) -> MoveFault
 }
 
 /// Hands a job over from the hall at one place to that at another, which has room for it: it is packed here, admitted
-/// there, and leaves. In between both halls have it. After want of memory neither hall has changed.
+/// there, and leaves. In between both halls have it. If memory runs out, neither hall has changed.
 fn hand_over(
     halls: &mut Vec<Hall>,
     tenant: &Name,
@@ -103,7 +103,7 @@ fn hand_over(
     Ok(())
 }
 
-/// Memory was wanting where a hall did not admit a job that it has room for.
+/// Memory ran out where a hall did not admit a job that it has room for.
 fn wanting(fault: AdmitFault) -> Result<(), AllocError>
     requires { fault ≡ admitting.OutOfMemory }
     ensures { OnOk result ⊥ }

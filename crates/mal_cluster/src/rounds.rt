@@ -1,14 +1,14 @@
 //! A cluster that works in rounds.
 
 ghost use Rattle.std.specs.Prelude.{◌≡◌, ◌≢◌, ◌≤◌, ◌<◌, ℕ, List, [], Some, true, length, map, take, IfOk, OnErr, OnOk};
-ghost use Rattle.mal_cluster.specs.{Kept.{histories}, Turning.{HasTurns, HasTurnsAt, any_live, chosen_key}};
+ghost use Rattle.mal_cluster.specs.{Kept.{histories}, Turning.{HasTurns, HasTurnsAt, any_live}};
 ghost use Rattle.spec_cluster.specs.Clusters as spec;
 ghost use Rattle.spec_cluster.specs.declared.fault.MoveFault.TheVariants as moving;
 ghost use Rattle.spec_cluster.specs.{Clusters.{IsCluster, is_there}, Rounds.{AllTurn, AreRounds, HasBegun, IsBrokenOff, IsPart, IsRound, IsTurning, StopsShort, carried, goes, is_live}, Visits.{hall_at}};
 ghost use Rattle.spec_hall.specs.{Dressed.{keyed}, States.{leases}, Turns.{TakesTurn, first_live}};
 
 use crate::cluster::Cluster;
-use mal_base::Name;
+use mal_base::{Key, Name};
 use mal_hall::Hall;
 use mal_learn::Scratch;
 use spec_cluster::MoveFault;
@@ -16,8 +16,8 @@ use std::alloc::{AllocError, Global};
 
 impl Cluster {
     /// Drives the halls in rounds until no job is live: in each round each hall works for so many slices, 1 to 1,000,
-    /// or until it waits, and then the first live job of each goes on to the next hall, where that has room for it.
-    /// After want of memory all events and moves stay: those of whole rounds, and of a part of the next, in which no hall
+    /// or until it waits, and then the first live job of each goes on to the next hall, where that has room for it. If
+    /// memory runs out, all events and moves stay: those of whole rounds, and of a part of the next, in which no hall
     /// has worked beyond its turn. The cluster may be driven again.
     pub fn drive_moving(&mut self, every: u32, scratch: &mut Scratch) -> Result<(), AllocError>
         requires low { 1 ≤ every }
@@ -79,8 +79,8 @@ impl Cluster {
     }
 
     /// The jobs that were chosen in the halls go on, one after the other.
-    fn carry(&mut self, chosen: &[Option<(Name, Name)>]) -> Result<(), AllocError>
-        requires { map chosen_key chosen.now ≡ map first_live self.old.halls }
+    fn carry(&mut self, chosen: &[Option<Key>]) -> Result<(), AllocError>
+        requires { chosen.now ≡ map first_live self.old.halls }
         ensures carried { OnOk result (self.new ≡ carried (map first_live self.old.halls) 0 self.old) }
         ensures begun { HasBegun self.old self.new }
         ensures gone { OnErr result ((count : ℕ) × (self.new ≡ carried (take count (map first_live self.old.halls)) 0 self.old)) }
@@ -88,7 +88,7 @@ impl Cluster {
         for from in 0..chosen.len() {
             match &chosen[from] {
                 None => {}
-                Some((tenant, job)) => self.go_on(tenant, job, from)?,
+                Some(key) => self.go_on(&key.tenant, &key.job, from)?,
             }
         }
         Ok(())
@@ -124,7 +124,7 @@ fn any_live(halls: &[Hall]) -> bool
     false
 }
 
-/// A job that is refused where it would go stays, unless memory was wanting.
+/// A job that is refused where it would go stays, unless memory ran out.
 fn stays(fault: MoveFault) -> Result<(), AllocError>
     ensures stays { OnOk result (fault ≢ moving.OutOfMemory) }
     ensures memory { OnErr result (fault ≡ moving.OutOfMemory) }
@@ -155,9 +155,9 @@ fn take_turn(hall: &mut Hall, every: u32, scratch: &mut Scratch) -> Result<(), A
     Ok(())
 }
 
-/// The first live job of each hall.
-fn first_lives(alloc: Global, halls: &[Hall]) -> Result<Vec<Option<(Name, Name)>>, AllocError>
-    ensures { IfOk result (λ v. map chosen_key v.items ≡ map first_live (histories halls.now)) }
+/// The key of the first live job of each hall.
+fn first_lives(alloc: Global, halls: &[Hall]) -> Result<Vec<Option<Key>>, AllocError>
+    ensures { IfOk result (λ v. v.items ≡ map first_live (histories halls.now)) }
 {
     let mut firsts = Vec::new(alloc);
     for hall in halls {

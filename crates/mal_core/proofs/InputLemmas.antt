@@ -1,6 +1,7 @@
 -- What a text spells is what is read of it, and is served.
 use Rattle.std.proofs.Common.{◌≡◌, ℕ, List, Result, Ok, Err, ap, ◌∙◌, subst}
 use Rattle.std.specs.Prelude.{IfOk}
+use Rattle.mal_base.specs.Limits.{limits}
 use Rattle.mal_base.specs.Clauses.{rises}
 use Rattle.mal_base.specs.Formulas.{is_within}
 use Rattle.mal_base.specs.declared.line_fault.LineFault.{LineFault}
@@ -13,7 +14,7 @@ use Rattle.spec_script.proofs.Inversions.{bind_ok, ok_is}
 use Rattle.spec_core.specs.Core.{Instance}
 use Rattle.spec_core.specs.Right.{IsServed}
 use Rattle.mal_instance.specs.Reading as lits
-use Rattle.mal_instance.specs.Reading.{Fault, LitsFault, wrong, at_most}
+use Rattle.mal_instance.specs.Reading.{Fault, wrong, at_most}
 use Rattle.mal_instance.specs.Laws.{LitsAreRead}
 use Rattle.mal_instance.specs.ReadResult.{Gives}
 use Rattle.mal_instance.specs.declared.fault.InputFault.{InputFault}
@@ -32,13 +33,13 @@ assumptions-read f words found = (there, back)
   where
     there : SayAssumptions f words found → assumptions_of f words ≡ Ok found
     there says =
-        ap (λ (r : Result (List ℕ) LineFault). wrong r >>= at_most 255) (assumes-read f.variables words found says.0)
-        ∙ few-at_most 255 found says.1
+        ap (λ (r : Result (List ℕ) LineFault). wrong r >>= at_most limits.assumptions) (assumes-read f.variables words found says.0)
+        ∙ few-at_most limits.assumptions found says.1
 
     back : assumptions_of f words ≡ Ok found → SayAssumptions f words found
     back e =
-        let a = bind_ok (wrong (assumptions_in f.variables words)) (at_most 255) found e in
-        let few = at_most-few 255 a.0 found a.2 in
+        let a = bind_ok (wrong (assumptions_in f.variables words)) (at_most limits.assumptions) found e in
+        let few = at_most-few limits.assumptions a.0 found a.2 in
         let read : assumptions_in f.variables words ≡ Ok a.0 = wrong_ok (assumptions_in f.variables words) a.0 a.1 in
         subst (λ (ls : List ℕ). SayAssumptions f words ls) few.1 (read-assumes f.variables words a.0 read, few.0)
 

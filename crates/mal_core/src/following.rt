@@ -1,79 +1,67 @@
 //! What follows what is told.
 
 ghost use Rattle.std.specs.Prelude.{◌≡◌, IfOk};
-ghost use Rattle.mal_inquiry.specs.Causes.{cause_of};
-ghost use Rattle.mal_report.specs.Told.{body_of};
-ghost use Rattle.spec_course.specs.Course.Next.{Ends};
-ghost use Rattle.spec_core.specs.Core.{Instance, Unknown, going, models_of, satisfied, step};
-ghost use Rattle.mal_core.specs.Seen.{next_of};
+ghost use Rattle.spec_inquiry.specs.Searches.{Proofs};
+ghost use Rattle.spec_core.specs.{Core.{going, models_of, satisfied}, Right.{IsServed}};
+ghost use Rattle.mal_core.specs.Seen.{LeadsTo, core_by, instance, narrowed_by, next_of};
 
-use crate::outcome::{Minimal, Narrowed};
-use mal_base::{Lines, Lit, Values};
-use mal_report::{Cause, Told};
+use crate::outcome::{Minimal, Narrowing};
+use crate::questions::without_next;
+use mal_base::{Formula, Lit, Values};
+use mal_inquiry::Next;
 use std::alloc::{AllocError, Global};
 
-/// What follows a reply: it is asked without the first literal of the core so far that has no model, or the search ends.
-#[derive(Drop)]
-pub enum Next {
-    Asks(Narrowed),
-    Ends(Minimal),
-}
-
-/// What follows what is told, where this is the core so far.
-pub fn after(alloc: Global, narrowed: Option<Narrowed>, told: Told) -> Result<Next, AllocError>
-    ensures { (w : Instance) → IfOk result (λ next. next_of w next ≡ step w narrowed (body_of told)) }
-{
-    match told {
-        Told::Model(model) => satisfied(narrowed, model),
-        Told::Proof { failed, lines } => Ok(refuted(alloc, narrowed, failed, lines)),
-        Told::Spent(slices) => Ok(unknown(Cause::Spent(slices))),
-        Told::Starved => Ok(unknown(Cause::Starved)),
-    }
-}
-
 /// What follows a model: the first satisfies all assumptions, and each other lets the next literal stay.
-fn satisfied(narrowed: Option<Narrowed>, model: Values) -> Result<Next, AllocError>
-    ensures { (w : Instance) → IfOk result (λ next. next_of w next ≡ satisfied w narrowed model) }
+pub fn satisfied(
+    alloc: Global,
+    formula: &Formula,
+    assumptions: &[Lit],
+    narrowing: Option<Narrowing>,
+    model: Values,
+) -> Result<Next<Option<Narrowing>, Narrowing, Minimal>, AllocError>
+    requires served { IsServed (instance formula.now assumptions.now) }
+    requires asked { LeadsTo (instance formula.now assumptions.now)
+        (λ proofs. satisfied (instance formula.now assumptions.now) (narrowed_by proofs narrowing) model) }
+    ensures { IfOk result (λ next. (proofs : Proofs) → next_of proofs next
+        ≡ satisfied (instance formula.now assumptions.now) (narrowed_by proofs narrowing) model) }
 {
-    match narrowed {
+    match narrowing {
         None => Ok(Next::Ends(Minimal::Satisfiable { model })),
-        Some(mut narrowed) => {
-            narrowed.models.push(model)?;
-            Ok(going(narrowed))
+        Some(mut narrowing) => {
+            narrowing.models.push(model)?;
+            going(alloc, formula, assumptions, narrowing)
         }
     }
 }
 
-/// What follows lines that refute the formula under failed assumptions: these are the core, and the models stay.
-fn refuted(alloc: Global, narrowed: Option<Narrowed>, failed: Vec<Lit>, lines: Lines) -> Next
-    ensures { (w : Instance)
-        → next_of w result ≡ going w (record { core = failed.items; lines = lines.lines; models = models_of narrowed }) }
+/// What follows a core: where each literal has a model without it the search ends with the lines of its proof, and else it
+/// is asked without the first that has none.
+pub fn going(
+    alloc: Global,
+    formula: &Formula,
+    assumptions: &[Lit],
+    narrowing: Narrowing,
+) -> Result<Next<Option<Narrowing>, Narrowing, Minimal>, AllocError>
+    requires served { IsServed (instance formula.now assumptions.now) }
+    requires asked { LeadsTo (instance formula.now assumptions.now)
+        (λ proofs. going (instance formula.now assumptions.now) (core_by proofs narrowing)) }
+    ensures { IfOk result (λ next. (proofs : Proofs) → next_of proofs next
+        ≡ going (instance formula.now assumptions.now) (core_by proofs narrowing)) }
 {
-    let models = match narrowed {
-        None => Vec::new(alloc),
-        Some(narrowed) => narrowed.models,
-    };
-    going(Narrowed {
-        core: failed,
-        lines,
-        models,
-    })
-}
-
-/// What follows a core: where each literal has a model without it the search ends.
-fn going(narrowed: Narrowed) -> Next
-    ensures { (w : Instance) → next_of w result ≡ going w narrowed }
-{
-    if narrowed.models.len() == narrowed.core.len() {
-        Next::Ends(Minimal::Core(narrowed))
-    } else {
-        Next::Asks(narrowed)
+    if narrowing.models.len() == narrowing.core.len() {
+        let proof = narrowing.proof;
+        return Ok(Next::Proves(narrowing, proof));
     }
+    let question = without_next(alloc, formula, &narrowing)?;
+    Ok(Next::Asks(Some(narrowing), question))
 }
 
-/// What follows an unknown answer: the search ends, for its cause.
-fn unknown(cause: Cause) -> Next
-    ensures { (w : Instance) → next_of w result ≡ Ends (Unknown (cause_of cause)) }
+/// The models so far.
+pub fn models_of(alloc: Global, narrowing: Option<Narrowing>) -> Vec<Values>
+    ensures { (proofs : Proofs) → result.items ≡ models_of (narrowed_by proofs narrowing) }
 {
-    Next::Ends(Minimal::Unknown { cause })
+    match narrowing {
+        None => Vec::new(alloc),
+        Some(narrowing) => narrowing.models,
+    }
 }

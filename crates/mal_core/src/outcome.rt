@@ -4,8 +4,17 @@ use mal_base::{Lines, Lit, Values};
 use mal_report::Cause;
 use std::marker::Model;
 
-/// A core so far: failed assumptions by rising variable, the lines that refute the formula under them, and for each of
-/// the first of them a model without it. Contracts see the three lists.
+/// A core so far: failed assumptions by rising variable, the number of the question that they were told of, and for each
+/// of the first of them a model without it.
+#[derive(Drop)]
+pub struct Narrowing {
+    pub core: Vec<Lit>,
+    pub proof: u32,
+    pub models: Vec<Values>,
+}
+
+/// A core: failed assumptions by rising variable, the lines that refute the formula under them, and for each of them a
+/// model without it. Contracts see the three lists.
 #[derive(Drop)]
 pub struct Narrowed {
     pub core: Vec<Lit>,

@@ -1,41 +1,45 @@
 //! The questions of a search.
 
-ghost use Rattle.std.specs.Prelude.{◌≡◌, ℕ, IfOk};
-ghost use Rattle.spec_core.specs.Laws.{IsQuestion};
-ghost use Rattle.mal_core.specs.Seen.{instance, question};
+ghost use Rattle.std.specs.Prelude.{◌≡◌, ◌<◌, length, true, IfOk};
+ghost use Rattle.mal_revision.specs.Posted.{is_posted};
+ghost use Rattle.spec_core.specs.{Core.{opening}, Right.{IsServed}};
+ghost use Rattle.mal_core.specs.Seen.{instance, without};
 
-use crate::outcome::Narrowed;
+use crate::outcome::Narrowing;
 use mal_base::{ClauseList, Formula, Lit};
 use mal_inquiry::{copied, posted};
 use mal_revision::Revision;
 use std::alloc::{AllocError, Global};
 
-/// The question of a search, with the core so far: the formula under all assumptions, or without the first literal that
-/// has no model.
-pub fn question(
+/// The first question: the formula under all assumptions.
+pub fn opening(
     alloc: Global,
     formula: &Formula,
     assumptions: &[Lit],
-    narrowed: &Option<Narrowed>,
 ) -> Result<Revision, AllocError>
-    requires { (n : ℕ) × IsQuestion (instance formula.now assumptions.now) n narrowed.now
-        (question (instance formula.now assumptions.now) narrowed.now) }
-    ensures { IfOk result (λ r. r ≡ question (instance formula.now assumptions.now) narrowed.now) }
+    requires { IsServed (instance formula.now assumptions.now) }
+    ensures { IfOk result (λ r. r ≡ opening (instance formula.now assumptions.now)) }
 {
-    match narrowed {
-        None => {
-            let clauses = copied(alloc, formula.clauses())?;
-            posted(alloc, formula.variables(), clauses, assumptions)
-        }
-        Some(narrowed) => {
-            let mut others = Vec::from_slice(alloc, narrowed.core.as_slice())?;
-            others.remove(narrowed.models.len());
-            posted(
-                alloc,
-                formula.variables(),
-                ClauseList::new(alloc),
-                others.as_slice(),
-            )
-        }
-    }
+    let clauses = copied(alloc, formula.clauses())?;
+    posted(alloc, formula.variables(), clauses, assumptions)
+}
+
+/// The question without the first literal of a core so far that has no model, which may be posted.
+pub fn without_next(
+    alloc: Global,
+    formula: &Formula,
+    narrowing: &Narrowing,
+) -> Result<Revision, AllocError>
+    requires next { length narrowing.now.models.items < length narrowing.now.core.items }
+    requires posted { is_posted (without formula.now.variables narrowing.now) ≡ true }
+    ensures { IfOk result (λ r. r ≡ without formula.now.variables narrowing.now) }
+{
+    let mut others = Vec::from_slice(alloc, narrowing.core.as_slice())?;
+    others.remove(narrowing.models.len());
+    posted(
+        alloc,
+        formula.variables(),
+        ClauseList::new(alloc),
+        others.as_slice(),
+    )
 }

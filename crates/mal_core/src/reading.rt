@@ -7,7 +7,7 @@ ghost use Rattle.mal_instance.specs.{Rows.{begins}, Reading.{literals_of}, ReadR
 ghost use Rattle.mal_core.specs.{Reading.{assumptions_of, read_text, word}, Grammar.{Spells}, ReadResult.{seen_instance}};
 
 use crate::input::Instance;
-use mal_base::{Formula, Lit};
+use mal_base::{Formula, LIMITS, Lit};
 use mal_instance::{InputFault, LitsError, Opened, ended, read_opening};
 use mal_script::assumptions;
 use std::alloc::Global;
@@ -62,7 +62,7 @@ fn line_assumptions(alloc: Global, row: &[u8], formula: &Formula) -> Result<Vec<
     ensures { GivesLits (λ v. v.items) result (assumptions_of formula.now (drop 1 (words_of row.now))) }
 {
     let lits = assumptions(alloc, row, formula.variables())?;
-    if lits.len() > 255 {
+    if lits.len() > LIMITS.assumptions {
         return Err(LitsError::Exceeds);
     }
     Ok(lits)

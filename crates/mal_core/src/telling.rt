@@ -9,7 +9,7 @@ use mal_instance::InputFault;
 use std::alloc::{AllocError, Global};
 
 /// The line that tells a fault of a text, as `fault: no assumptions`, `fault: formula line 3 Opposite 1` or `fault:
-/// formula line 3 Limit Assumptions`, with its line end. None exactly for want of memory.
+/// formula line 3 Limit Assumptions`, with its line end. None exactly when out of memory.
 pub fn fault_line(alloc: Global, fault: InputFault) -> Result<Option<Vec<u8>>, AllocError>
     ensures { IfOk result
         (λ o. MatchOption o (fault_of fault ≡ None) (λ text. TellsBy fault_line (fault_of fault) text.items)) }

@@ -1,8 +1,8 @@
--- Literals that rise, with one more behind them.
+-- Literals that rise, with one more after them.
 use Rattle.std.proofs.Common.{◌≡◌, ℕ, suc, ◌-◌, ◌/◌, Bool, true, false, ◌&&◌, List, [], ◌∷◌, ◌++◌, length, nat_lt, slice_get, Some, refl, ap, sym, ◌∙◌, arith}
 use Rattle.mal_base.specs.Clauses.{rises}
 
--- literals that do not rise do not with one more behind them
+-- literals that do not rise do not with one more after them
 pub no_rise : (lits : List ℕ) (lit : ℕ) → rises lits ≡ false → rises (lits ++ lit ∷ []) ≡ false
 no_rise [] lit e = absurd (cc)
 no_rise (l ∷ []) lit e = absurd (cc)

@@ -11,7 +11,7 @@ use Rattle.spec_dimacs.specs.Written.{closed_words, clause_words, header_words, 
 use Rattle.spec_dimacs.proofs.Texts.{before_line, closed_some}
 use Rattle.mal_dimacs.specs.Spaced.{spaced}
 
--- the line of literals is each with a space behind it, and then a 0
+-- the line of literals is each with a space after it, and then a 0
 closed_line : (lits : List ℕ) → line_of (closed_words lits) ≡ flat_map spaced lits ++ codes "0\n"
 closed_line [] = refl
 closed_line (l ∷ ls) =

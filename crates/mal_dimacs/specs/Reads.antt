@@ -38,6 +38,6 @@ abbrev pub GivesAt : {X : Type 0} → Result X DimacsFault → Result X (ℕ × 
 GivesAt (Ok x) reading = reading ≡ Ok x
 GivesAt (Err e) reading = FailsAt e reading
 
--- after a word that says this and the words behind it
+-- after a word that says this and the words after it
 abbrev pub after_said : NumberWord → List (List ℕ) → Block → Result Block BlockFault
 after_said said words b = after_number said b >>= after_words words

@@ -1,7 +1,7 @@
-//! A reader of one block: a header and the lines of clauses behind it.
+//! A reader of one block: a header and the lines of clauses after it.
 
 ghost use Rattle.std.specs.Prelude.{◌≡◌, ◌+◌, ◌<◌, ◌≤◌, ◌∷◌, ◌++◌, [], true, length, nat_abs, Ok, Err, OnOk, OnErr, IfSome};
-ghost use Rattle.mal_base.specs.{Clauses.{rises}, Formulas.{is_clause_of, size_of}};
+ghost use Rattle.mal_base.specs.{Limits.{limits}, Clauses.{rises}, Formulas.{is_clause_of, size_of}};
 ghost use Rattle.spec_text.specs.{Inputs.{words_of}, Numbers.{number_in}};
 ghost use Rattle.spec_dimacs.specs.{Merged.{clause_of}, Blocks.{IsBlock}, Reading.{Block, after_counted, after_number, after_percent, after_row, after_words, after_zero, closed, code_of, ended, opened}};
 ghost use Rattle.mal_text.specs.Numbers.{said_within};
@@ -14,7 +14,7 @@ use crate::fault::DimacsError;
 use crate::header::counts;
 use crate::pending::Pending;
 use crate::words::{is_comment, literal};
-use mal_base::{BlockFault, ClauseList, Formula, LimitKind, Lit, Stage};
+use mal_base::{BlockFault, ClauseList, Formula, LIMITS, LimitKind, Lit, Stage};
 use mal_text::{NumberFault, begins_number, first_word, number, number_in_front};
 use std::alloc::{AllocError, Global};
 use std::marker::Model;
@@ -45,7 +45,7 @@ impl Model for BlockReader {
 }
 
 impl BlockReader {
-    /// The reader behind a header line, `p cnf V C` with at most 65,536 variables and 2^20 clauses.
+    /// The reader after a header line, `p cnf V C` with no more variables and clauses than are served.
     ///
     /// Errors: `BadHeader` for any other words and for negative numbers, then `Limit` for too many variables, and then
     /// for too many clauses.
@@ -66,8 +66,8 @@ impl BlockReader {
         }
     }
 
-    /// The reader behind one more line: a line of numbers, an empty line, a comment, the line `%`, or one that may
-    /// stand behind it.
+    /// The reader after one more line: a line of numbers, an empty line, a comment, the line `%`, or one that may
+    /// stand after it.
     ///
     /// Errors: the first fault of the line by its words from left to right, or `OutOfMemory`.
     pub fn row(self, line: &[u8]) -> Result<BlockReader, DimacsError>
@@ -140,7 +140,7 @@ impl BlockReader {
         }
     }
 
-    /// Reads the line `%`, given what stands behind that word.
+    /// Reads the line `%`, given what stands after that word.
     fn take_percent(&mut self, rest: &[u8]) -> Result<(), DimacsError>
         ensures { Leaves result self.new (after_percent (words_of rest.now) self.old) }
     {
@@ -158,7 +158,7 @@ impl BlockReader {
         ensures { Leaves result self.new (after_zero first.now (words_of rest.now) self.old) }
     {
         match first_word(rest) {
-            // Numbers count by value, but behind % only the word 0 itself may stand.
+            // Numbers count by value, but after % only the word 0 itself may stand.
             None if first == b"0".as_slice() => {
                 self.stage = Stage::Zero;
                 Ok(())
@@ -177,14 +177,14 @@ impl BlockReader {
             self.take_number(number)?;
             rest = behind;
         }
-        // Most lines end behind their last number.
+        // Most lines end after their last number.
         if rest.is_empty() {
             return Ok(());
         }
         self.read_words(rest)
     }
 
-    /// The number that a line begins with, where it is plainly written, and the line behind it.
+    /// The number that a line begins with, where it is plainly written, and the line after it.
     fn number_at<'a>(&self, line: &'a [u8]) -> Option<(i64, &'a [u8])>
         ensures next { IfSome result
             (λ cut. after_words (words_of line.now) self.now
@@ -231,7 +231,7 @@ impl BlockReader {
         }
     }
 
-    /// Puts a literal behind those that wait for a 0.
+    /// Puts a literal after those that wait for a 0.
     fn push(&mut self, number: i64) -> Result<(), DimacsError>
         requires some { 1 ≤ nat_abs number }
         requires bound { nat_abs number ≤ self.old.variables }
@@ -254,12 +254,12 @@ impl BlockReader {
     fn add(&mut self, is_clause: bool) -> Result<(), DimacsError>
         requires { is_clause_of self.old.variables (merged is_clause self.old.pending) ≡ true }
         ensures left { Leaves result self.new (closed (merged is_clause self.old.pending) self.old) }
-        // Beyond 2^24 literals want of memory is never the answer.
-        ensures full { 16777216 < self.old.literals + size_of (merged is_clause self.old.pending)
+        // Beyond the limit of literals out of memory is never the answer.
+        ensures full { limits.literals < self.old.literals + size_of (merged is_clause self.old.pending)
             → result ≡ Err (Fault (Limit Literals)) }
     {
         let size = size_of(is_clause, self.pending.lits());
-        let left = (1 << 24) - self.literals as usize;
+        let left = LIMITS.literals - self.literals as usize;
         if size > left {
             return Err(DimacsError::Fault(BlockFault::Limit {
                 which: LimitKind::Literals,
@@ -306,7 +306,7 @@ fn size_of(is_clause: bool, lits: &[Lit]) -> usize
     if is_clause { lits.len() } else { 0 }
 }
 
-/// Puts the clause of these literals, or a tautology, behind the others.
+/// Puts the clause of these literals, or a tautology, after the others.
 fn keep(clauses: &mut ClauseList, is_clause: bool, lits: &[Lit]) -> Result<(), AllocError>
     requires { is_clause ≡ true → rises lits.now ≡ true }
     ensures ok { OnOk result (clauses.new ≡ clauses.old ++ merged is_clause lits.now ∷ []) }

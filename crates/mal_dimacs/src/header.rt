@@ -7,10 +7,11 @@ ghost use Rattle.spec_dimacs.specs.Reading.{opened, opened_with};
 ghost use Rattle.mal_dimacs.specs.Counts.{opens_with};
 ghost use Rattle.mal_base.specs.declared.block_fault.BlockFault.TheVariants.{BadHeader};
 
-use mal_base::{BlockFault, LimitKind};
+use mal_base::{BlockFault, LIMITS, LimitKind};
 use mal_text::{NumberFault, first_word, magnitude};
 
-/// The number of variables and the number of clauses that a header line declares, at most 65,536 and 2^20.
+/// The number of variables and the number of clauses that a header line declares, each at most as many as
+/// are served.
 pub fn counts(line: &[u8]) -> Result<(u32, u32), BlockFault>
     ensures { opens_with result ≡ opened (words_of line.now) }
 {
@@ -50,7 +51,10 @@ fn two_words(line: &[u8]) -> Option<(&[u8], &[u8])>
 fn counts_of(variables: &[u8], clauses: &[u8]) -> Result<(u32, u32), BlockFault>
     ensures { opens_with result ≡ opened_with variables.now clauses.now }
 {
-    match (count(variables, 65_536), count(clauses, 1 << 20)) {
+    match (
+        count(variables, LIMITS.variables),
+        count(clauses, LIMITS.clauses as u32),
+    ) {
         (Err(NumberFault::NotANumber), _) => Err(BlockFault::BadHeader),
         (_, Err(NumberFault::NotANumber)) => Err(BlockFault::BadHeader),
         (Err(NumberFault::TooLarge), _) => Err(BlockFault::Limit {

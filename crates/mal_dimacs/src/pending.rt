@@ -46,7 +46,7 @@ impl Pending {
         self.lits.as_slice()
     }
 
-    /// Puts a literal behind the others.
+    /// Puts a literal after the others.
     pub fn push(&mut self, lit: Lit) -> Result<(), AllocError>
         ensures ok { OnOk result (self.new ≡ self.old ++ lit ∷ []) }
         ensures err { OnErr result (self.new ≡ self.old) }
@@ -57,7 +57,7 @@ impl Pending {
         Ok(())
     }
 
-    /// Whether the variables rise strictly with a literal behind the others.
+    /// Whether the variables rise strictly with a literal after the others.
     fn rises_with(&self, lit: Lit) -> bool
         ensures { result ≡ rises (self.now ++ lit ∷ []) }
     {

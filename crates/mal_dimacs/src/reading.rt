@@ -52,7 +52,7 @@ fn first(alloc: Global, text: &[u8]) -> Result<Formula, DimacsFault>
     }
 }
 
-/// The reader behind one more line of a text, none before the header.
+/// The reader after one more line of a text, none before the header.
 pub fn after_line(
     alloc: Global,
     reader: Option<BlockReader>,
@@ -66,7 +66,7 @@ pub fn after_line(
     }
 }
 
-/// The reader behind a line before which only such lines stand as are passed over.
+/// The reader after a line before which only such lines stand as are passed over.
 fn before_header(alloc: Global, line: &[u8]) -> Result<Option<BlockReader>, DimacsError>
     ensures { Gives result (after_line (words_of line.now) None) }
 {

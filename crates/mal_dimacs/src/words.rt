@@ -1,6 +1,7 @@
 //! What a word is, and the literal that a number stands for.
 
 ghost use Rattle.std.specs.Prelude.{◌≡◌, ◌≤◌, nat_abs};
+ghost use Rattle.mal_base.specs.Limits.{greatest_variable};
 ghost use Rattle.spec_text.specs.Inputs.{words_of};
 ghost use Rattle.spec_dimacs.specs.{Rows.{is_comment, is_passed}, Reading.{code_of}};
 
@@ -20,7 +21,7 @@ pub fn is_comment(word: &[u8]) -> bool
 /// The literal that a number stands for.
 pub fn literal(number: i64) -> Lit
     requires some { 1 ≤ nat_abs number }
-    requires bound { nat_abs number ≤ 65536 }
+    requires bound { nat_abs number ≤ greatest_variable }
     ensures { result ≡ code_of number }
 {
     let var = Var::of(number.unsigned_abs() as u32);

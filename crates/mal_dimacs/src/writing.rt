@@ -20,7 +20,7 @@ pub fn write(alloc: Global, formula: &Formula) -> Result<Vec<u8>, AllocError>
     Ok(out)
 }
 
-/// Writes the lines of the formula of these variables and clauses behind a text, as `write` does. Where memory is
+/// Writes the lines of the formula of these variables and clauses after a text, as `write` does. Where memory is
 /// refused nothing is written.
 pub fn put_block(out: &mut Vec<u8>, variables: u32, clauses: &ClauseList) -> Result<(), AllocError>
     ensures written { OnOk result
@@ -92,7 +92,7 @@ fn put_clause(out: &mut Vec<u8>, clauses: &ClauseList, place: usize) -> Result<(
     }
 }
 
-/// Writes a line of literals and then a 0 behind a text. Where memory is refused nothing is written.
+/// Writes a line of literals and then a 0 after a text. Where memory is refused nothing is written.
 pub fn put_closed(out: &mut Vec<u8>, lits: &[Lit]) -> Result<(), AllocError>
     ensures written { OnOk result (out.new.items ≡ out.old.items ++ line_of (closed_words lits.now)) }
     ensures unchanged { OnErr result (out.new.items ≡ out.old.items) }

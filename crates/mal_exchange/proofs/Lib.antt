@@ -1,3 +1,2 @@
 -- what this crate alone cites
 mod LastLemmas
-mod BroadcastLemmas

@@ -12,8 +12,8 @@ pub const MOST_LITERALS: usize = 1500;
 
 /// What is broadcast to all solvers of a job: the union of what they export, each list of literals once with the least
 /// number, cut to its longest prefix of at most 1,500 literals. The buffers are those of the tree's places from 0 on,
-/// at most 64, empty where a solver takes no part. They climb the tree (as in Mallob 2021): from the greatest index on
-/// each is merged into the one above and cut there, which loses nothing.
+/// at most 64, empty where a solver takes no part. They climb the tree: from the greatest index on each is merged into
+/// the one above and cut there, which loses nothing.
 pub fn up(alloc: Global, buffers: &[Buffer]) -> Result<Buffer, AllocError>
     requires { length buffers.now ≤ 64 }
     ensures { IfOk result (λ b. b ≡ broadcast (entries_of buffers.now)) }

@@ -49,7 +49,7 @@ impl ClauseSet {
         !self.noted.contains(lits)
     }
 
-    /// Notes a clause, which then no longer passes. After want of memory the filter is as before.
+    /// Notes a clause, which then no longer passes. If memory runs out, the filter is as before.
     pub fn note(&mut self, clause: &Clause) -> Result<(), AllocError>
         ensures noted { OnOk result
             ((lits : List ℕ) → is_noted lits self.new ≡ (bytes_eq lits clause.now || is_noted lits self.old)) }

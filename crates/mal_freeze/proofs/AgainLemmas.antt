@@ -1,9 +1,13 @@
 -- What is spelled of an image is read again.
-use Rattle.std.proofs.Common.{◌≡◌, ℕ, zero, suc, ◌+◌, ◌-◌, ◌*◌, ◌/◌, ◌^◌, ◌<◌, ◌≤◌, Bool, true, false, ◌&&◌, ◌||◌, ◌==◌, eqb, nat_le, List, [], ◌∷◌, ◌++◌, length, Option, Some, None, Ok, refl, sym, ap, subst, ◌∙◌, append_assoc, arith, rules}
+use Rattle.std.proofs.Common.{◌≡◌, ℕ, zero, suc, ◌+◌, ◌-◌, ◌*◌, ◌/◌, ◌^◌, ◌<◌, ◌≤◌, Bool, true, false, ◌&&◌, eqb, nat_le, List, [], ◌∷◌, ◌++◌, length, Option, Some, None, Ok, refl, sym, ap, subst, ◌∙◌, append_assoc, arith, rules}
 use Rattle.std.specs.List.{flat_map, AllByRecursion, IsDistinct}
 use Rattle.std.specs.Int.{w32, w64}
 use Rattle.std.proofs.lemmas.Bool.{false≢true, and_parts, leb-true, ltb-true, eqb-true, lt-ltb}
 use Rattle.std.proofs.lemmas.List.{append-nil, length_push}
+use Rattle.mal_base.specs.Limits.{greatest_variable, limits}
+use Rattle.mal_base.specs.declared.profile.Profile.{Profile}
+use Rattle.mal_base.specs.declared.profile.Profile.TheVariants.{Plain, Lean}
+use Rattle.mal_base.specs.Profiles.{policy, may_stand}
 use Rattle.mal_base.specs.Clauses.{rises, is_below}
 use Rattle.mal_base.specs.Formulas.{is_within}
 use Rattle.mal_base.specs.NumberedClause.{NumberedClause}
@@ -19,12 +23,13 @@ use Rattle.mal_freeze.specs.declared.fields.Ended.{Ended}
 use Rattle.mal_freeze.specs.declared.fields.Fields.{Fields}
 use Rattle.mal_freeze.specs.Fields.{Listing}
 use Rattle.mal_freeze.specs.Imaged.{IsImage, is_image, is_new, are_new, may_follow, all_follow, are_literals, are_clauses}
-use Rattle.mal_freeze.specs.Spelling.{spelled, magic, dropping_bytes, number_or_0, code_of, goal_of, phase_bytes, counted, entry_bytes, clause_bytes, image_bytes}
+use Rattle.mal_freeze.specs.Spelling.{spelled, dropping_bytes, number_or_0, code_of, goal_of, phase_bytes, counted, entry_bytes, clause_bytes, image_bytes}
+use Rattle.mal_freeze.specs.Forms.{form_of}
 use Rattle.mal_freeze.specs.Widths.{FitsNumber, FitsGoal, FitsEntry, FitsClause, Fits}
 use Rattle.mal_freeze.specs.Reading.{many_at, number_in, literal_at, variable_at, phase_at, entry_at, clause_at, profile_at, dropping_at, head_at, search_at, ended_at, lists_at, fields_at, fits_goal, verdict_in, node_in, image_in}
-use Rattle.mal_freeze.proofs.FieldLemmas.{four, eight, number_again, ranged_again, byte_again, many_again, counted_again}
+use Rattle.mal_freeze.proofs.FieldLemmas.{good, four, eight, number_again, ranged_again, byte_again, many_again, counted_again}
 use Rattle.mal_freeze.proofs.FollowLemmas.{follow_parts}
-use Rattle.mal_freeze.proofs.TestLemmas.{is-image, by-profile}
+use Rattle.mal_freeze.proofs.TestLemmas.{is-image}
 use Rattle.mal_freeze.proofs.BeginsLemmas.{head_spelled, search_spelled, ended_spelled, lists_spelled}
 
 -- ---- what the elements of lists in form are
@@ -96,11 +101,11 @@ trail_fits greatest before (e ∷ es) f h =
     let rest : length (before ++ e ∷ []) + length es ≤ greatest = trail_fits greatest (before ++ e ∷ []) es (Fits-push greatest before e f b.free b.low b.high b.last b.next) a.1 in
     omega (arith, length_push before e)
 
-none_fits : (greatest : ℕ) → greatest ≤ 65536 → TrailFits greatest []
+none_fits : (greatest : ℕ) → greatest ≤ greatest_variable → TrailFits greatest []
 unfolding IsDistinct
 none_fits greatest h = record { small = h; distinct = search rules; within = λ v k. absurd (false≢true k); levels = tt }
 
-trail_few : (greatest : ℕ) (es : List TrailEntry) → greatest ≤ 65536 → all_follow greatest [] es ≡ true → length es ≤ greatest
+trail_few : (greatest : ℕ) (es : List TrailEntry) → greatest ≤ greatest_variable → all_follow greatest [] es ≡ true → length es ≤ greatest
 trail_few greatest es h k =
     let all : length {A = TrailEntry} [] + length es ≤ greatest = trail_fits greatest [] es (none_fits greatest h) k in
     omega arith
@@ -118,10 +123,10 @@ clauses_within greatest (c ∷ cs) h f =
 
 -- ---- the elements of lists
 
-literal_again : (total greatest : ℕ) → greatest ≤ 65536 → (l : ℕ) (rest : List ℕ) → Within 2 (2 * greatest + 1) l → literal_at total greatest (spelled w32 l ++ rest) ≡ Ok (l, rest)
+literal_again : (total greatest : ℕ) → greatest ≤ greatest_variable → (l : ℕ) (rest : List ℕ) → Within 2 (2 * greatest + 1) l → literal_at total greatest (spelled w32 l ++ rest) ≡ Ok (l, rest)
 literal_again total greatest h l rest w = ranged_again w32 (2 ^ 32) four total 2 (2 * greatest + 1) l rest (omega (arith, w.1)) w.0 w.1
 
-variable_again : (total greatest : ℕ) → greatest ≤ 65536 → (v : ℕ) (rest : List ℕ) → Within 1 greatest v → variable_at total greatest (spelled w32 v ++ rest) ≡ Ok (v, rest)
+variable_again : (total greatest : ℕ) → greatest ≤ greatest_variable → (v : ℕ) (rest : List ℕ) → Within 1 greatest v → variable_at total greatest (spelled w32 v ++ rest) ≡ Ok (v, rest)
 variable_again total greatest h v rest w = ranged_again w32 (2 ^ 32) four total 1 greatest v rest (omega (arith, w.1)) w.0 w.1
 
 phase_again : (total : ℕ) (b : Bool) (rest : List ℕ) → Unit {0} → phase_at total (phase_bytes b ++ rest) ≡ Ok (b, rest)
@@ -148,13 +153,13 @@ assoc_3 a b c rest = append_assoc a (b ++ c) rest ∙ ap (λ (x : List ℕ). a +
 assoc_4 : (a b c d rest : List ℕ) → (a ++ (b ++ (c ++ d))) ++ rest ≡ a ++ (b ++ (c ++ (d ++ rest)))
 assoc_4 a b c d rest = append_assoc a (b ++ (c ++ d)) rest ∙ ap (λ (x : List ℕ). a ++ x) (assoc_3 b c d rest)
 
-entry_again : (total greatest : ℕ) → greatest ≤ 65536 → (e : TrailEntry) (rest : List ℕ) → IsEntryOf greatest e → entry_at total greatest (entry_bytes e ++ rest) ≡ Ok (e, rest)
+entry_again : (total greatest : ℕ) → greatest ≤ greatest_variable → (e : TrailEntry) (rest : List ℕ) → IsEntryOf greatest e → entry_at total greatest (entry_bytes e ++ rest) ≡ Ok (e, rest)
 unfolding entry_at
 entry_again total greatest h e rest w =
     ap (entry_at total greatest) (assoc_3 (spelled w32 e.lit) (spelled w64 (number_or_0 e.reason)) (spelled w32 e.level) rest)
     ∙ rw (literal_again total greatest h e.lit (spelled w64 (number_or_0 e.reason) ++ (spelled w32 e.level ++ rest)) w.0, number_again w64 (2 ^ 64) eight (number_or_0 e.reason) (spelled w32 e.level ++ rest) (number_fits e.reason w.1.0), number_again w32 (2 ^ 32) four e.level rest w.1.1, number_in_again e.reason w.1.0) refl
 
-clause_again : (total greatest : ℕ) → greatest ≤ 65536 → (c : NumberedClause) (rest : List ℕ) → IsClauseOf greatest c → clause_at total greatest (clause_bytes c ++ rest) ≡ Ok (c, rest)
+clause_again : (total greatest : ℕ) → greatest ≤ greatest_variable → (c : NumberedClause) (rest : List ℕ) → IsClauseOf greatest c → clause_at total greatest (clause_bytes c ++ rest) ≡ Ok (c, rest)
 unfolding clause_at
 clause_again total greatest h c rest w =
     ap (clause_at total greatest) (append_assoc (spelled w64 c.id) (counted (spelled w32) c.lits) rest)
@@ -162,21 +167,24 @@ clause_again total greatest h c rest w =
 
 -- ---- the parts of an image
 
-profile_again : (profile count : ℕ) (rest : List ℕ) → ((profile == 2) || ((profile == 1) && (count == 0))) ≡ true → profile_at (spelled w64 (magic profile) ++ rest) ≡ Ok (profile, rest)
+profile_again : (profile : Profile) (rest : List ℕ) → profile_at (spelled w64 (form_of profile).magic ++ rest) ≡ Ok (profile, rest)
 unfolding profile_at
-profile_again profile count rest h = by-profile (λ p c. profile_at (spelled w64 (magic p) ++ rest) ≡ Ok (p, rest)) profile count h (rw (number_again w64 (2 ^ 64) eight (magic 1) rest (omega arith)) refl) (λ c. rw (number_again w64 (2 ^ 64) eight (magic 2) rest (omega arith)) refl)
+profile_again Plain rest = rw (number_again w64 (2 ^ 64) eight (form_of Plain).magic rest (omega arith)) refl
+profile_again Lean rest = rw (number_again w64 (2 ^ 64) eight (form_of Lean).magic rest (omega arith)) refl
 
-dropping_again : (profile count : ℕ) (rest : List ℕ) → ((profile == 2) || ((profile == 1) && (count == 0))) ≡ true → count < 2 ^ 32 → dropping_at profile (dropping_bytes profile count ++ rest) ≡ Ok (count, rest)
+-- a profile whose images do not have the count counts nothing
+dropping_again : (profile : Profile) (count : ℕ) (rest : List ℕ) → may_stand (policy profile).reduction count ≡ true → count < 2 ^ 32 → dropping_at profile (dropping_bytes profile count ++ rest) ≡ Ok (count, rest)
 unfolding dropping_at
-dropping_again profile count rest h = by-profile (λ p c. c < 2 ^ 32 → dropping_at p (dropping_bytes p c ++ rest) ≡ Ok (c, rest)) profile count h (λ low. refl) (λ c low. number_again w32 (2 ^ 32) four c rest low)
+dropping_again Plain count rest h low = ap (λ (c : ℕ). good (c, rest)) (sym (eqb-true count 0 h))
+dropping_again Lean count rest h low = number_again w32 (2 ^ 32) four count rest low
 
-head_again : (total : ℕ) (h : Head) (rest : List ℕ) → h.index ≤ 63 → h.variables ≤ 65536 → h.serial < 2 ^ 57 → h.conflicts_since_restart < 2 ^ 32 → head_at total (head_spelled h ++ rest) ≡ Ok (h, rest)
+head_again : (total : ℕ) (h : Head) (rest : List ℕ) → h.index ≤ 63 → h.variables ≤ limits.variables → h.serial < 2 ^ 57 → h.conflicts_since_restart < 2 ^ 32 → head_at total (head_spelled h ++ rest) ≡ Ok (h, rest)
 unfolding head_at
 head_again total h rest a b c d =
     ap (head_at total) (assoc_4 (spelled w32 h.index) (spelled w32 h.variables) (spelled w64 h.serial) (spelled w32 h.conflicts_since_restart) rest)
-    ∙ rw (ranged_again w32 (2 ^ 32) four total 0 63 h.index (spelled w32 h.variables ++ (spelled w64 h.serial ++ (spelled w32 h.conflicts_since_restart ++ rest))) (omega arith) (omega arith) a, ranged_again w32 (2 ^ 32) four total 0 65536 h.variables (spelled w64 h.serial ++ (spelled w32 h.conflicts_since_restart ++ rest)) (omega arith) (omega arith) b, ranged_again w64 (2 ^ 64) eight total 0 (2 ^ 57 - 1) h.serial (spelled w32 h.conflicts_since_restart ++ rest) (omega arith) (omega arith) (omega arith), number_again w32 (2 ^ 32) four h.conflicts_since_restart rest d) refl
+    ∙ rw (ranged_again w32 (2 ^ 32) four total 0 63 h.index (spelled w32 h.variables ++ (spelled w64 h.serial ++ (spelled w32 h.conflicts_since_restart ++ rest))) (omega arith) (omega arith) a, ranged_again w32 (2 ^ 32) four total 0 limits.variables h.variables (spelled w64 h.serial ++ (spelled w32 h.conflicts_since_restart ++ rest)) (omega arith) (omega arith) b, ranged_again w64 (2 ^ 64) eight total 0 (2 ^ 57 - 1) h.serial (spelled w32 h.conflicts_since_restart ++ rest) (omega arith) (omega arith) (omega arith), number_again w32 (2 ^ 32) four h.conflicts_since_restart rest d) refl
 
-search_again : (total profile : ℕ) (s : Search) (rest : List ℕ) → ((profile == 2) || ((profile == 1) && (s.conflicts_since_dropping == 0))) ≡ true → 1 ≤ s.restart_number → s.restart_number < 2 ^ 32 → s.conflicts_since_dropping < 2 ^ 32 → s.processed < 2 ^ 32 → FitsNumber s.conflict
+search_again : (total : ℕ) (profile : Profile) (s : Search) (rest : List ℕ) → may_stand (policy profile).reduction s.conflicts_since_dropping ≡ true → 1 ≤ s.restart_number → s.restart_number < 2 ^ 32 → s.conflicts_since_dropping < 2 ^ 32 → s.processed < 2 ^ 32 → FitsNumber s.conflict
     → search_at total profile (search_spelled profile s ++ rest) ≡ Ok (s, rest)
 unfolding search_at
 search_again total profile s rest h a b e c d =
@@ -192,7 +200,7 @@ assoc_5 a b c d e rest = append_assoc a (b ++ (c ++ (d ++ e))) rest ∙ ap (λ (
 
 -- lists whose elements are in their ranges
 pub record AreLists (greatest : ℕ) (l : Listing) : Type 0 where
-  pub bound : greatest ≤ 65536
+  pub bound : greatest ≤ greatest_variable
   pub assumptions : AllByRecursion (Within 2 (2 * greatest + 1)) l.assumptions
   pub few : length l.assumptions ≤ greatest
   pub order : AllByRecursion (Within 1 greatest) l.order
@@ -221,15 +229,17 @@ lists_are : (n : Node) → IsImage n → Fits n → AreLists n.variables (record
 lists_are n i f =
     let a = and_parts (rises n.assumptions) (is_within n.variables n.assumptions) i.form.assumptions in
     let o = and_parts (eqb (length n.order) n.variables) (are_new n.variables [] n.order) i.form.order in
+    let served : n.variables ≤ limits.variables = i.form.ranges.variables in
+    let bound : n.variables ≤ greatest_variable = omega arith in
     record {
-      bound = i.form.ranges.variables;
+      bound = bound;
       assumptions = lits_within n.variables n.assumptions a.1;
       few = lits_few n.variables n.assumptions i.form.assumptions;
       order = order_within n.variables [] n.order o.1;
       all = eqb-true (length n.order) n.variables o.0;
       phases = i.form.ranges.phases;
       trail = trail_within n.variables [] n.trail i.form.trail f.lists.trail;
-      short = trail_few n.variables n.trail i.form.ranges.variables i.form.trail;
+      short = trail_few n.variables n.trail bound i.form.trail;
       clauses = clauses_within n.variables n.clauses i.form.clauses f.lists.clauses;
       count = f.lists.count;
     }
@@ -277,7 +287,7 @@ fields_again total n i f =
     let search = search_spelled n.profile found in
     let lists : lists_at total n.variables (lists_spelled l) ≡ Ok (l, []) = ap (lists_at total n.variables) (sym (append-nil (lists_spelled l))) ∙ lists_again total n.variables l [] (lists_are n i f) in
     rw (
-      profile_again n.profile n.conflicts_since_dropping (head_spelled h ++ (search ++ (ended_spelled (ended_of n.verdict) ++ lists_spelled l))) i.profile,
+      profile_again n.profile (head_spelled h ++ (search ++ (ended_spelled (ended_of n.verdict) ++ lists_spelled l))),
       head_again total h (search ++ (ended_spelled (ended_of n.verdict) ++ lists_spelled l)) i.form.ranges.index i.form.ranges.variables i.form.ranges.serial f.conflicts_since_restart,
       search_again total n.profile found (ended_spelled (ended_of n.verdict) ++ lists_spelled l) i.profile i.form.ranges.restart_number f.counts.restart_number f.counts.conflicts_since_dropping f.counts.processed f.counts.conflict,
       ended_again total (ended_of n.verdict) (lists_spelled l) (code_fits n.verdict) (goal_fits n.verdict f.goal),

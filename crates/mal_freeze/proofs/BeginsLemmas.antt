@@ -1,21 +1,25 @@
 -- What is read of an image was spelled so.
-use Rattle.std.proofs.Common.{◌≡◌, ℕ, zero, suc, ◌+◌, ◌-◌, ◌*◌, ◌^◌, ◌≤◌, Bool, true, false, ◌&&◌, cond, eqb, List, [], ◌∷◌, ◌++◌, length, Ok, Err, refl, sym, ap, subst, ◌∙◌, arith}
+use Rattle.std.proofs.Common.{◌≡◌, ℕ, zero, suc, ◌+◌, ◌-◌, ◌*◌, ◌^◌, ◌≤◌, Bool, true, false, ◌&&◌, cond, eqb, List, [], ◌∷◌, ◌++◌, length, Option, Some, None, Ok, Err, refl, sym, ap, subst, ◌∙◌, arith}
 use Rattle.std.specs.List.{flat_map}
 use Rattle.std.specs.Int.{w32, w64}
 use Rattle.std.proofs.lemmas.Bool.{and_parts, eqb-true}
 use Rattle.std.proofs.lemmas.List.{append-nil, nil_from_length}
+use Rattle.mal_base.specs.Limits.{limits}
+use Rattle.mal_base.specs.declared.profile.Profile.{Profile}
+use Rattle.mal_base.specs.declared.profile.Profile.TheVariants.{Plain, Lean}
 use Rattle.mal_base.specs.NumberedClause.{NumberedClause}
 use Rattle.mal_base.specs.declared.trail_entry.TrailEntry.{TrailEntry}
 use Rattle.spec_node.specs.State.{Node}
-use Rattle.mal_freeze.specs.declared.fault.ThawFault.TheVariants.{BadMagic, NotCanonical}
+use Rattle.mal_freeze.specs.declared.fault.ThawFault.TheVariants.{NotCanonical}
 use Rattle.mal_freeze.specs.declared.fields.Head.{Head}
 use Rattle.mal_freeze.specs.declared.fields.Search.{Search}
 use Rattle.mal_freeze.specs.declared.fields.Ended.{Ended}
 use Rattle.mal_freeze.specs.declared.fields.Fields.{Fields}
 use Rattle.mal_freeze.specs.Fields.{Listing}
 use Rattle.mal_freeze.specs.Imaged.{is_image}
-use Rattle.mal_freeze.specs.Spelling.{spelled, magic, dropping_bytes, number_or_0, phase_code, phase_bytes, counted, entry_bytes, clause_bytes, verdict_bytes, image_bytes}
-use Rattle.mal_freeze.specs.Reading.{◌>>=◌, number_at, ranged_at, byte_at, many_at, counted_at, number_in, literal_at, variable_at, phase_at, entry_at, clause_at, profile_at, dropping_at, head_at, search_at, ended_at, lists_at, fields_at, fits_goal, verdict_in, node_in, is_canonical, image_in}
+use Rattle.mal_freeze.specs.Spelling.{spelled, dropping_bytes, number_or_0, phase_code, phase_bytes, counted, entry_bytes, clause_bytes, verdict_bytes, image_bytes}
+use Rattle.mal_freeze.specs.Forms.{form_of, profile_named}
+use Rattle.mal_freeze.specs.Reading.{◌>>=◌, number_at, ranged_at, byte_at, many_at, counted_at, number_in, literal_at, variable_at, phase_at, entry_at, clause_at, named, profile_at, dropping_at, head_at, search_at, ended_at, lists_at, fields_at, fits_goal, verdict_in, node_in, is_canonical, image_in}
 use Rattle.mal_freeze.proofs.FieldLemmas.{IsBytes, Begins, begins-more, step_ok, let_when, good, ok_same, four, eight, number_begins, ranged_begins, byte_begins, many_begins, counted_begins}
 
 -- ---- the elements of lists
@@ -70,29 +74,32 @@ clause_begins total greatest bytes x are e =
 -- ---- the parts of an image
 
 -- a number that names a profile is that of its images
-second_magic : (n : ℕ) (rest : List ℕ) (x : ℕ × List ℕ) → cond (eqb n (magic 2)) (good (2, rest)) (Err BadMagic) ≡ Ok x → (n ≡ magic x.0) × (rest ≡ x.1)
-second_magic n rest x e =
-    let g = let_when (eqb n (magic 2)) BadMagic (2, rest) x e in
-    (eqb-true n (magic 2) g.0 ∙ ap (λ (y : ℕ × List ℕ). magic y.0) g.1, ap (λ (y : ℕ × List ℕ). y.1) g.1)
-
-either_magic : (n : ℕ) (rest : List ℕ) (x : ℕ × List ℕ) → cond (eqb n (magic 1)) (good (1, rest)) (cond (eqb n (magic 2)) (good (2, rest)) (Err BadMagic)) ≡ Ok x → (n ≡ magic x.0) × (rest ≡ x.1)
-either_magic n rest x = by_first (eqb n (magic 1)) refl
+magic-of_named : (n : ℕ) (p : Profile) → profile_named n ≡ Some p → n ≡ (form_of p).magic
+magic-of_named n p = by_first (eqb n (form_of Plain).magic) refl
   where
-    by_first : (b : Bool) → eqb n (magic 1) ≡ b → cond b (good (1, rest)) (cond (eqb n (magic 2)) (good (2, rest)) (Err BadMagic)) ≡ Ok x → (n ≡ magic x.0) × (rest ≡ x.1)
-    by_first true t e = let same : (1, rest) ≡ x = ok_same (1, rest) x e in (eqb-true n (magic 1) t ∙ ap (λ (y : ℕ × List ℕ). magic y.0) same, ap (λ (y : ℕ × List ℕ). y.1) same)
-    by_first false t e = second_magic n rest x e
+    by_second : (b : Bool) → eqb n (form_of Lean).magic ≡ b → cond {A = Option Profile} b (Some Lean) None ≡ Some p → n ≡ (form_of p).magic
+    by_second true t e = let same : Lean ≡ p = cc in eqb-true n (form_of Lean).magic t ∙ ap (λ (q : Profile). (form_of q).magic) same
+    by_second false t e = absurd (cc)
 
-profile_begins : (bytes : List ℕ) (x : ℕ × List ℕ) → IsBytes bytes → profile_at bytes ≡ Ok x → Begins bytes (spelled w64 (magic x.0)) x.1
+    by_first : (b : Bool) → eqb n (form_of Plain).magic ≡ b → cond {A = Option Profile} b (Some Plain) (cond {A = Option Profile} (eqb n (form_of Lean).magic) (Some Lean) None) ≡ Some p → n ≡ (form_of p).magic
+    by_first true t e = let same : Plain ≡ p = cc in eqb-true n (form_of Plain).magic t ∙ ap (λ (q : Profile). (form_of q).magic) same
+    by_first false t e = by_second (eqb n (form_of Lean).magic) refl e
+
+named-is : (o : Option Profile) (rest : List ℕ) (x : Profile × List ℕ) → named o rest ≡ Ok x → (o ≡ Some x.0) × (rest ≡ x.1)
+named-is None rest x e = absurd (cc)
+named-is (Some p) rest x e = let same : (p, rest) ≡ x = ok_same (p, rest) x e in (ap (λ (y : Profile × List ℕ). Some y.0) same, ap (λ (y : Profile × List ℕ). y.1) same)
+
+profile_begins : (bytes : List ℕ) (x : Profile × List ℕ) → IsBytes bytes → profile_at bytes ≡ Ok x → Begins bytes (spelled w64 (form_of x.0).magic) x.1
 unfolding profile_at
 profile_begins bytes x are e =
-    let a = step_ok (number_at w64 bytes) (λ n. cond (eqb n.0 (magic 1)) (Ok (1, n.1)) (cond (eqb n.0 (magic 2)) (Ok (2, n.1)) (Err BadMagic))) x e in
+    let a = step_ok (number_at w64 bytes) (λ n. named (profile_named n.0) n.1) x e in
     let p = number_begins w64 (2 ^ 64) eight bytes a.0 are a.1 in
-    let m = either_magic a.0.0 a.0.1 x a.2 in
-    subst (λ (k : ℕ). Begins bytes (spelled w64 k) x.1) m.0 (subst (λ (r : List ℕ). Begins bytes (spelled w64 a.0.0) r) m.1 p)
+    let m = named-is (profile_named a.0.0) a.0.1 x a.2 in
+    subst (λ (k : ℕ). Begins bytes (spelled w64 k) x.1) (magic-of_named a.0.0 x.0 m.0) (subst (λ (r : List ℕ). Begins bytes (spelled w64 a.0.0) r) m.1 p)
 
-dropping_begins : (profile : ℕ) (bytes : List ℕ) (x : ℕ × List ℕ) → IsBytes bytes → dropping_at profile bytes ≡ Ok x → Begins bytes (dropping_bytes profile x.0) x.1
+dropping_begins : (profile : Profile) (bytes : List ℕ) (x : ℕ × List ℕ) → IsBytes bytes → dropping_at profile bytes ≡ Ok x → Begins bytes (dropping_bytes profile x.0) x.1
 unfolding dropping_at
-dropping_begins profile bytes x are = by_test (eqb profile 2)
+dropping_begins profile bytes x are = by_test (form_of profile).counts
   where
     by_test : (b : Bool) → cond b (number_at w32 bytes) (good (0, bytes)) ≡ Ok x → Begins bytes (cond b (spelled w32 x.0) []) x.1
     by_test true e = number_begins w32 (2 ^ 32) four bytes x are e
@@ -104,12 +111,12 @@ head_spelled h = spelled w32 h.index ++ (spelled w32 h.variables ++ (spelled w64
 head_begins : (total : ℕ) (bytes : List ℕ) (x : Head × List ℕ) → IsBytes bytes → head_at total bytes ≡ Ok x → Begins bytes (head_spelled x.0) x.1
 unfolding head_at
 head_begins total bytes x are e =
-    let a = step_ok (ranged_at total w32 0 63 bytes) (λ index. ranged_at total w32 0 65536 index.1 >>= λ variables. ranged_at total w64 0 (2 ^ 57 - 1) variables.1 >>= λ serial. number_at w32 serial.1 >>= λ conflicts_since_restart. Ok (record { index = index.0; variables = variables.0; serial = serial.0; conflicts_since_restart = conflicts_since_restart.0 }, conflicts_since_restart.1)) x e in
-    let b = step_ok (ranged_at total w32 0 65536 a.0.1) (λ variables. ranged_at total w64 0 (2 ^ 57 - 1) variables.1 >>= λ serial. number_at w32 serial.1 >>= λ conflicts_since_restart. Ok (record { index = a.0.0; variables = variables.0; serial = serial.0; conflicts_since_restart = conflicts_since_restart.0 }, conflicts_since_restart.1)) x a.2 in
+    let a = step_ok (ranged_at total w32 0 63 bytes) (λ index. ranged_at total w32 0 limits.variables index.1 >>= λ variables. ranged_at total w64 0 (2 ^ 57 - 1) variables.1 >>= λ serial. number_at w32 serial.1 >>= λ conflicts_since_restart. Ok (record { index = index.0; variables = variables.0; serial = serial.0; conflicts_since_restart = conflicts_since_restart.0 }, conflicts_since_restart.1)) x e in
+    let b = step_ok (ranged_at total w32 0 limits.variables a.0.1) (λ variables. ranged_at total w64 0 (2 ^ 57 - 1) variables.1 >>= λ serial. number_at w32 serial.1 >>= λ conflicts_since_restart. Ok (record { index = a.0.0; variables = variables.0; serial = serial.0; conflicts_since_restart = conflicts_since_restart.0 }, conflicts_since_restart.1)) x a.2 in
     let d = step_ok (ranged_at total w64 0 (2 ^ 57 - 1) b.0.1) (λ serial. number_at w32 serial.1 >>= λ conflicts_since_restart. Ok (record { index = a.0.0; variables = b.0.0; serial = serial.0; conflicts_since_restart = conflicts_since_restart.0 }, conflicts_since_restart.1)) x b.2 in
     let f = step_ok (number_at w32 d.0.1) (λ conflicts_since_restart. Ok (record { index = a.0.0; variables = b.0.0; serial = d.0.0; conflicts_since_restart = conflicts_since_restart.0 }, conflicts_since_restart.1)) x d.2 in
     let p = ranged_begins w32 (2 ^ 32) four total 0 63 bytes a.0 are a.1 in
-    let q = ranged_begins w32 (2 ^ 32) four total 0 65536 a.0.1 b.0 p.are_bytes b.1 in
+    let q = ranged_begins w32 (2 ^ 32) four total 0 limits.variables a.0.1 b.0 p.are_bytes b.1 in
     let r = ranged_begins w64 (2 ^ 64) eight total 0 (2 ^ 57 - 1) b.0.1 d.0 q.are_bytes d.1 in
     let s = number_begins w32 (2 ^ 32) four d.0.1 f.0 r.are_bytes f.1 in
     let rs = begins-more b.0.1 (spelled w64 d.0.0) d.0.1 (spelled w32 f.0.0) f.0.1 r s in
@@ -118,10 +125,10 @@ head_begins total bytes x are e =
     let made : Head × List ℕ = (record { index = a.0.0; variables = b.0.0; serial = d.0.0; conflicts_since_restart = f.0.0 }, f.0.1) in
     subst (λ (y : Head × List ℕ). Begins bytes (head_spelled y.0) y.1) (ok_same made x f.2) all
 
-abbrev pub search_spelled : ℕ → Search → List ℕ
+abbrev pub search_spelled : Profile → Search → List ℕ
 search_spelled profile s = spelled w32 s.restart_number ++ (dropping_bytes profile s.conflicts_since_dropping ++ (spelled w32 s.processed ++ spelled w64 (number_or_0 s.conflict)))
 
-search_begins : (total profile : ℕ) (bytes : List ℕ) (x : Search × List ℕ) → IsBytes bytes → search_at total profile bytes ≡ Ok x → Begins bytes (search_spelled profile x.0) x.1
+search_begins : (total : ℕ) (profile : Profile) (bytes : List ℕ) (x : Search × List ℕ) → IsBytes bytes → search_at total profile bytes ≡ Ok x → Begins bytes (search_spelled profile x.0) x.1
 unfolding search_at
 search_begins total profile bytes x are e =
     let a = step_ok (ranged_at total w32 1 (2 ^ 32 - 1) bytes) (λ restart_number. dropping_at profile restart_number.1 >>= λ conflicts_since_dropping. number_at w32 conflicts_since_dropping.1 >>= λ processed. number_at w64 processed.1 >>= λ conflict. Ok (record { restart_number = restart_number.0; conflicts_since_dropping = conflicts_since_dropping.0; processed = processed.0; conflict = number_in conflict.0 }, conflict.1)) x e in
@@ -176,7 +183,7 @@ lists_begins total greatest bytes x are e =
     subst (λ (y : Listing × List ℕ). Begins bytes (lists_spelled y.0) y.1) (ok_same made x g.2) all
 
 abbrev pub fields_spelled : Fields → List ℕ
-fields_spelled f = spelled w64 (magic f.profile) ++ (head_spelled f.head ++ (search_spelled f.profile f.search ++ (ended_spelled f.ended ++ lists_spelled f.lists)))
+fields_spelled f = spelled w64 (form_of f.profile).magic ++ (head_spelled f.head ++ (search_spelled f.profile f.search ++ (ended_spelled f.ended ++ lists_spelled f.lists)))
 
 -- the bytes are those of the fields and those left over
 pub record AreFields (bytes : List ℕ) (f : Fields) : Type 0 where
@@ -201,7 +208,7 @@ fields_begin total bytes x are e =
     let st = begins-more d.0.1 (ended_spelled f.0.0) f.0.1 (lists_spelled g.0.0) g.0.1 s.0 t in
     let rt = begins-more b.0.1 (search_spelled a.0.0 d.0.0) d.0.1 (ended_spelled f.0.0 ++ lists_spelled g.0.0) g.0.1 r st in
     let qt = begins-more a.0.1 (head_spelled b.0.0) b.0.1 (search_spelled a.0.0 d.0.0 ++ (ended_spelled f.0.0 ++ lists_spelled g.0.0)) g.0.1 q rt in
-    let all = begins-more bytes (spelled w64 (magic a.0.0)) a.0.1 (head_spelled b.0.0 ++ (search_spelled a.0.0 d.0.0 ++ (ended_spelled f.0.0 ++ lists_spelled g.0.0))) g.0.1 p qt in
+    let all = begins-more bytes (spelled w64 (form_of a.0.0).magic) a.0.1 (head_spelled b.0.0 ++ (search_spelled a.0.0 d.0.0 ++ (ended_spelled f.0.0 ++ lists_spelled g.0.0))) g.0.1 p qt in
     let made : Fields = record { profile = a.0.0; head = b.0.0; search = d.0.0; ended = f.0.0; lists = g.0.0; left = length g.0.1 } in
     subst (λ (y : Fields). AreFields bytes y) (ok_same made x g.2) (record { left = g.0.1; begins = all.parts; count = refl; code = s.1 })
 
@@ -231,5 +238,5 @@ image_spelled bytes n are e =
     let nothing : b.left ≡ [] = nil_from_length b.left (b.count ∙ none) in
     let whole : bytes ≡ fields_spelled f = b.begins ∙ ap (λ (r : List ℕ). fields_spelled f ++ r) nothing ∙ append-nil (fields_spelled f) in
     let told = verdict_coded f.ended f.ended.code refl b.code h.0 in
-    let same : fields_spelled f ≡ image_bytes (node_in f) = ap (λ (v : List ℕ). spelled w64 (magic f.profile) ++ (head_spelled f.head ++ (search_spelled f.profile f.search ++ (v ++ lists_spelled f.lists)))) (sym told) in
+    let same : fields_spelled f ≡ image_bytes (node_in f) = ap (λ (v : List ℕ). spelled w64 (form_of f.profile).magic ++ (head_spelled f.head ++ (search_spelled f.profile f.search ++ (v ++ lists_spelled f.lists)))) (sym told) in
     whole ∙ same ∙ ap (λ (m : Node). image_bytes m) g.1

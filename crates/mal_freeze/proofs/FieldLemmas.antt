@@ -45,7 +45,7 @@ good x = Ok x
 pub ok_same : {A : Type 0} (x y : A) → good x ≡ good y → x ≡ y
 ok_same x y e = cc
 
--- bytes begin with a text, and bytes are left behind it
+-- bytes begin with a text, and bytes are left after it
 pub record Begins (bytes text left : List ℕ) : Type 0 where
   pub parts : bytes ≡ text ++ left
   pub are_bytes : IsBytes left

@@ -1,8 +1,10 @@
--- Nothing behind a faulty field of an image counts.
-use Rattle.std.proofs.Common.{◌≡◌, ◌⊎◌, ℕ, zero, suc, ◌+◌, ◌-◌, ◌*◌, ◌^◌, ◌<◌, ◌≤◌, Bool, true, false, ◌||◌, cond, ltb, nat_lt, eqb, List, [], ◌∷◌, ◌++◌, length, take, drop, Result, Ok, Err, inl, inr, refl, sym, ap, subst, ◌∙◌, append_assoc, arith}
+-- Nothing after a faulty field of an image counts.
+use Rattle.std.proofs.Common.{◌≡◌, ◌⊎◌, ℕ, zero, suc, ◌+◌, ◌-◌, ◌*◌, ◌^◌, ◌<◌, ◌≤◌, Bool, true, false, ◌||◌, cond, ltb, nat_lt, eqb, List, [], ◌∷◌, ◌++◌, length, take, drop, Option, Some, None, Result, Ok, Err, inl, inr, refl, sym, ap, subst, ◌∙◌, append_assoc, arith}
 use Rattle.std.specs.Int.{Width, w32, w64, byte_len, from_be_bytes}
 use Rattle.std.proofs.lemmas.Bool.{ltb-false, le-ltb}
 use Rattle.std.proofs.lemmas.List.{take_at, drop_at, take-append-drop, length-append, length-take}
+use Rattle.mal_base.specs.Limits.{limits}
+use Rattle.mal_base.specs.declared.profile.Profile.{Profile}
 use Rattle.mal_base.specs.NumberedClause.{NumberedClause}
 use Rattle.mal_base.specs.declared.trail_entry.TrailEntry.{TrailEntry}
 use Rattle.mal_freeze.specs.declared.fault.ThawFault.{ThawFault}
@@ -13,23 +15,23 @@ use Rattle.mal_freeze.specs.declared.fields.Ended.{Ended}
 use Rattle.mal_freeze.specs.declared.fields.Fields.{Fields}
 use Rattle.mal_freeze.specs.Fields.{Listing}
 use Rattle.mal_freeze.specs.Laws.{EndsWithField, FaultIsFirst, HasFaultyFront}
-use Rattle.mal_freeze.specs.Spelling.{magic}
-use Rattle.mal_freeze.specs.Reading.{◌>>=◌, place_of, number_at, ranged_at, byte_at, many_at, counted_at, number_in, phase_at, entry_at, clause_at, profile_at, dropping_at, head_at, search_at, ended_at, lists_at, fields_at, node_in, is_canonical, image_in}
+use Rattle.mal_freeze.specs.Forms.{form_of, profile_named}
+use Rattle.mal_freeze.specs.Reading.{◌>>=◌, place_of, number_at, ranged_at, byte_at, many_at, counted_at, number_in, phase_at, entry_at, clause_at, named, profile_at, dropping_at, head_at, search_at, ended_at, lists_at, fields_at, node_in, is_canonical, image_in}
 use Rattle.mal_freeze.proofs.FieldLemmas.{ok_same, step_ok}
 
 -- reading a value, of the length of the whole text and the bytes that are left
 abbrev Reads : Type 0 → Type 0
 Reads Z = ℕ → List ℕ → Result Z ThawFault
 
--- reading a field, and the bytes behind it
+-- reading a field, and the bytes after it
 abbrev ReadsField : Type 0 → Type 0
 ReadsField X = Reads (X × List ℕ)
 
--- what is read of bytes behind so many others
+-- what is read of bytes after so many others
 abbrev read : {Z : Type 0} → Reads Z → ℕ → List ℕ → Result Z ThawFault
 read f n bytes = f (n + length bytes) bytes
 
--- bytes behind so many others end with the faulty field
+-- bytes after so many others end with the faulty field
 abbrev EndsAt : ℕ → ThawFault → List ℕ → Type 0
 EndsAt n BadMagic front = n + length front ≡ 8
 EndsAt n Truncated front = ⊥
@@ -62,7 +64,7 @@ record IsFieldAt {X : Type 0} (f : ReadsField X) (n : ℕ) : Type 0 where
 abbrev IsField : {X : Type 0} → ReadsField X → Type 0
 IsField f = (n : ℕ) → IsFieldAt f n
 
--- one reading behind another
+-- one reading after another
 abbrev followed : {X Z : Type 0} → ReadsField X → (X → Reads Z) → Reads Z
 followed f g total bytes = f total bytes >>= λ r. g r.0 total r.1
 
@@ -76,7 +78,7 @@ ends-more n front next (BadField place) ends = let long = more-length n front ne
 ends-more n front next NotCanonical ends = ends
 ends-more n front next OutOfMemory ends = ends
 
--- what is read behind a field
+-- what is read after a field
 behind-field : {X Z : Type 0} (f : ReadsField X) (g : X → Reads Z) (n : ℕ) (bytes : List ℕ) (x : X × List ℕ) (one : Goes f n bytes x) (others : List ℕ) → read (followed f g) n (one.front ++ others) ≡ read (g x.0) (n + length one.front) others
 behind-field {X} {Z} f g n bytes x one others =
     ap (λ (r : Result (X × List ℕ) ThawFault). r >>= λ y. g y.0 (n + length (one.front ++ others)) y.1) (one.same others)
@@ -193,7 +195,7 @@ number-field w n = record { goes = goes; stops = stops }
         by_case (inl short) = let same : ◌≡◌ {A = Result (ℕ × List ℕ) ThawFault} (Err Truncated) (Err fault) = sym short ∙ e in inl (cc)
         by_case (inr r) = let none : ◌≡◌ {A = Result (ℕ × List ℕ) ThawFault} (Ok (from_be_bytes w r.front, r.rest)) (Err fault) = sym r.is ∙ e in absurd (cc)
 
--- a field begins behind the bytes before it
+-- a field begins after the bytes before it
 its-place : (n : ℕ) (bytes : List ℕ) → place_of (n + length bytes) bytes ≡ n
 its-place n bytes = omega arith
 
@@ -353,16 +355,12 @@ clause-field greatest n =
 
 -- ---- the parts of an image
 
-abbrev a_profile : ReadsField ℕ
+abbrev a_profile : ReadsField Profile
 a_profile total bytes = profile_at bytes
 
--- the profile that a number names
-abbrev profile_by : Bool → Bool → List ℕ → Result (ℕ × List ℕ) ThawFault
-profile_by first second rest = cond first (Ok (1, rest)) (cond second (Ok (2, rest)) (Err BadMagic))
-
-profile-front : (front others : List ℕ) (a b : Bool) → length front ≡ 8 → eqb (from_be_bytes w64 front) (magic 1) ≡ a → eqb (from_be_bytes w64 front) (magic 2) ≡ b → profile_at (front ++ others) ≡ profile_by a b others
+profile-front : (front others : List ℕ) (o : Option Profile) → length front ≡ 8 → profile_named (from_be_bytes w64 front) ≡ o → profile_at (front ++ others) ≡ named o others
 unfolding profile_at
-profile-front front others a b len p q = rw (number-front w64 front others len, p, q) refl
+profile-front front others o len p = rw (number-front w64 front others len) (ap (λ (q : Option Profile). named q others) p)
 
 profile-short : (bytes : List ℕ) → number_at w64 bytes ≡ Err Truncated → profile_at bytes ≡ Err Truncated
 unfolding profile_at
@@ -371,36 +369,34 @@ profile-short bytes short = rw short refl
 profile-field : IsFieldAt a_profile 0
 profile-field = record { goes = goes; stops = stops }
   where
-    goes : (bytes : List ℕ) (x : ℕ × List ℕ) → profile_at bytes ≡ Ok x → Goes a_profile 0 bytes x
+    goes : (bytes : List ℕ) (x : Profile × List ℕ) → profile_at bytes ≡ Ok x → Goes a_profile 0 bytes x
     goes bytes x e = by_case (number-cases w64 bytes)
       where
-        by_test : (r : IsRead w64 bytes) (a b : Bool) → eqb (from_be_bytes w64 r.front) (magic 1) ≡ a → eqb (from_be_bytes w64 r.front) (magic 2) ≡ b → profile_by a b r.rest ≡ Ok x → Goes a_profile 0 bytes x
-        by_test r true b p q f = subst (λ (y : ℕ × List ℕ). Goes a_profile 0 bytes y) (ok_same (1, r.rest) x f) (record { front = r.front; parts = r.parts; same = λ others. profile-front r.front others true b r.len p q })
-        by_test r false true p q f = subst (λ (y : ℕ × List ℕ). Goes a_profile 0 bytes y) (ok_same (2, r.rest) x f) (record { front = r.front; parts = r.parts; same = λ others. profile-front r.front others false true r.len p q })
-        by_test r false false p q f = absurd (cc)
+        by_name : (r : IsRead w64 bytes) (o : Option Profile) → profile_named (from_be_bytes w64 r.front) ≡ o → named o r.rest ≡ Ok x → Goes a_profile 0 bytes x
+        by_name r None q f = absurd (cc)
+        by_name r (Some p) q f = subst (λ (y : Profile × List ℕ). Goes a_profile 0 bytes y) (ok_same (p, r.rest) x f) (record { front = r.front; parts = r.parts; same = λ others. profile-front r.front others (Some p) r.len q })
 
         by_case : (number_at w64 bytes ≡ Err Truncated) ⊎ IsRead w64 bytes → Goes a_profile 0 bytes x
-        by_case (inl short) = let none : ◌≡◌ {A = Result (ℕ × List ℕ) ThawFault} (Err Truncated) (Ok x) = sym (profile-short bytes short) ∙ e in absurd (cc)
+        by_case (inl short) = let none : ◌≡◌ {A = Result (Profile × List ℕ) ThawFault} (Err Truncated) (Ok x) = sym (profile-short bytes short) ∙ e in absurd (cc)
         by_case (inr r) =
-            by_test r (eqb (from_be_bytes w64 r.front) (magic 1)) (eqb (from_be_bytes w64 r.front) (magic 2)) refl refl
-            (sym (ap (λ (bs : List ℕ). profile_at bs) r.parts ∙ profile-front r.front r.rest (eqb (from_be_bytes w64 r.front) (magic 1)) (eqb (from_be_bytes w64 r.front) (magic 2)) r.len refl refl) ∙ e)
+            by_name r (profile_named (from_be_bytes w64 r.front)) refl
+            (sym (ap (λ (bs : List ℕ). profile_at bs) r.parts ∙ profile-front r.front r.rest (profile_named (from_be_bytes w64 r.front)) r.len refl) ∙ e)
 
     stops : StopsFirst a_profile 0
     stops bytes fault e = by_case (number-cases w64 bytes)
       where
-        by_test : (r : IsRead w64 bytes) (a b : Bool) → eqb (from_be_bytes w64 r.front) (magic 1) ≡ a → eqb (from_be_bytes w64 r.front) (magic 2) ≡ b → profile_by a b r.rest ≡ Err fault → Stops a_profile 0 bytes fault
-        by_test r true b p q f = absurd (cc)
-        by_test r false true p q f = absurd (cc)
-        by_test r false false p q f =
+        by_name : (r : IsRead w64 bytes) (o : Option Profile) → profile_named (from_be_bytes w64 r.front) ≡ o → named o r.rest ≡ Err fault → Stops a_profile 0 bytes fault
+        by_name r None q f =
             let same : BadMagic ≡ fault = cc in
             let len : length r.front ≡ 8 = r.len in
-            subst (λ (x : ThawFault). Stops a_profile 0 bytes x) same (record { front = r.front; behind = r.rest; parts = r.parts; ends = omega (arith, len); same = λ others. profile-front r.front others false false r.len p q })
+            subst (λ (x : ThawFault). Stops a_profile 0 bytes x) same (record { front = r.front; behind = r.rest; parts = r.parts; ends = omega (arith, len); same = λ others. profile-front r.front others None r.len q })
+        by_name r (Some p) q f = absurd (cc)
 
         by_case : (number_at w64 bytes ≡ Err Truncated) ⊎ IsRead w64 bytes → (fault ≡ Truncated) ⊎ Stops a_profile 0 bytes fault
-        by_case (inl short) = let same : ◌≡◌ {A = Result (ℕ × List ℕ) ThawFault} (Err Truncated) (Err fault) = sym (profile-short bytes short) ∙ e in inl (cc)
+        by_case (inl short) = let same : ◌≡◌ {A = Result (Profile × List ℕ) ThawFault} (Err Truncated) (Err fault) = sym (profile-short bytes short) ∙ e in inl (cc)
         by_case (inr r) =
-            inr (by_test r (eqb (from_be_bytes w64 r.front) (magic 1)) (eqb (from_be_bytes w64 r.front) (magic 2)) refl refl
-            (sym (ap (λ (bs : List ℕ). profile_at bs) r.parts ∙ profile-front r.front r.rest (eqb (from_be_bytes w64 r.front) (magic 1)) (eqb (from_be_bytes w64 r.front) (magic 2)) r.len refl refl) ∙ e))
+            inr (by_name r (profile_named (from_be_bytes w64 r.front)) refl
+            (sym (ap (λ (bs : List ℕ). profile_at bs) r.parts ∙ profile-front r.front r.rest (profile_named (from_be_bytes w64 r.front)) r.len refl) ∙ e))
 
 abbrev a_head : ReadsField Head
 a_head total bytes = head_at total bytes
@@ -411,29 +407,29 @@ head_of index variables serial conflicts = record { index = index; variables = v
 head-field : IsField a_head
 unfolding head_at
 head-field n =
-    next-field (ranged w32 0 63) (λ (i : ℕ). followed (ranged w32 0 65536) (λ (v : ℕ). followed (ranged w64 0 (2 ^ 57 - 1)) (λ (s : ℕ). followed (a_number w32) (λ (c : ℕ). makes (head_of i v s c))))) n (ranged_4 0 63 n)
-    (λ i m. next-field (ranged w32 0 65536) (λ (v : ℕ). followed (ranged w64 0 (2 ^ 57 - 1)) (λ (s : ℕ). followed (a_number w32) (λ (c : ℕ). makes (head_of i v s c)))) m (ranged_4 0 65536 m)
+    next-field (ranged w32 0 63) (λ (i : ℕ). followed (ranged w32 0 limits.variables) (λ (v : ℕ). followed (ranged w64 0 (2 ^ 57 - 1)) (λ (s : ℕ). followed (a_number w32) (λ (c : ℕ). makes (head_of i v s c))))) n (ranged_4 0 63 n)
+    (λ i m. next-field (ranged w32 0 limits.variables) (λ (v : ℕ). followed (ranged w64 0 (2 ^ 57 - 1)) (λ (s : ℕ). followed (a_number w32) (λ (c : ℕ). makes (head_of i v s c)))) m (ranged_4 0 limits.variables m)
     (λ v k. next-field (ranged w64 0 (2 ^ 57 - 1)) (λ (s : ℕ). followed (a_number w32) (λ (c : ℕ). makes (head_of i v s c))) k (ranged_8 0 (2 ^ 57 - 1) k)
     (λ s l. next-field (a_number w32) (λ (c : ℕ). makes (head_of i v s c)) l (number-field w32 l) (λ c. makes-field (head_of i v s c)))))
 
-abbrev a_dropping : ℕ → ReadsField ℕ
+abbrev a_dropping : Profile → ReadsField ℕ
 a_dropping profile total bytes = dropping_at profile bytes
 
-dropping-field : (profile : ℕ) → IsField (a_dropping profile)
+dropping-field : (profile : Profile) → IsField (a_dropping profile)
 unfolding dropping_at
-dropping-field profile n = by_test (eqb profile 2)
+dropping-field profile n = by_test (form_of profile).counts
   where
     by_test : (b : Bool) → IsFieldAt {X = ℕ} (λ total bytes. cond {A = Result (ℕ × List ℕ) ThawFault} b (number_at w32 bytes) (Ok (0, bytes))) n
     by_test true = number-field w32 n
     by_test false = makes-field {X = ℕ} 0 n
 
-abbrev a_search : ℕ → ReadsField Search
+abbrev a_search : Profile → ReadsField Search
 a_search profile total bytes = search_at total profile bytes
 
 abbrev search_of : ℕ → ℕ → ℕ → ℕ → Search
 search_of restart dropping processed conflict = record { restart_number = restart; conflicts_since_dropping = dropping; processed = processed; conflict = number_in conflict }
 
-search-field : (profile : ℕ) → IsField (a_search profile)
+search-field : (profile : Profile) → IsField (a_search profile)
 unfolding search_at
 search-field profile n =
     next-field (ranged w32 1 (2 ^ 32 - 1)) (λ (r : ℕ). followed (a_dropping profile) (λ (d : ℕ). followed (a_number w32) (λ (p : ℕ). followed (a_number w64) (λ (c : ℕ). makes (search_of r d p c))))) n (ranged_4 1 (2 ^ 32 - 1) n)
@@ -483,19 +479,19 @@ lists-field greatest n =
 
 -- ---- the whole
 
-abbrev to_fields : ℕ → Head → Search → Ended → Listing → Reads Fields
+abbrev to_fields : Profile → Head → Search → Ended → Listing → Reads Fields
 to_fields p h s e l total bytes = Ok (record { profile = p; head = h; search = s; ended = e; lists = l; left = length bytes })
 
-abbrev from_ended : ℕ → Head → Search → Ended → Reads Fields
+abbrev from_ended : Profile → Head → Search → Ended → Reads Fields
 from_ended p h s e = followed (the_lists h.variables) (λ (l : Listing). to_fields p h s e l)
 
-abbrev from_search : ℕ → Head → Search → Reads Fields
+abbrev from_search : Profile → Head → Search → Reads Fields
 from_search p h s = followed an_end (λ (e : Ended). from_ended p h s e)
 
-abbrev from_head : ℕ → Head → Reads Fields
+abbrev from_head : Profile → Head → Reads Fields
 from_head p h = followed (a_search p) (λ (s : Search). from_search p h s)
 
-abbrev from_profile : ℕ → Reads Fields
+abbrev from_profile : Profile → Reads Fields
 from_profile p = followed a_head (λ (h : Head). from_head p h)
 
 abbrev all_fields : Reads Fields

@@ -6,7 +6,7 @@ use Rattle.mal_base.specs.declared.trail_entry.TrailEntry.{TrailEntry}
 use Rattle.spec_node.specs.Value.{has_value, level_of}
 use Rattle.mal_freeze.specs.Imaged.{may_follow}
 
--- what it means that an entry may stand behind others
+-- what it means that an entry may stand after others
 pub record MayFollow (greatest : ℕ) (before : List TrailEntry) (e : TrailEntry) : Type 0 where
   pub low : 1 ≤ var_of e.lit
   pub high : var_of e.lit ≤ greatest

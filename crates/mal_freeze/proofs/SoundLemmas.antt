@@ -52,7 +52,7 @@ neither : (a b : Bool) → a ≡ false → b ≡ false → (a || (b || false)) �
 neither true b h k = absurd (false≢true (sym h))
 neither false b h k = rw k refl
 
--- distinct numbers from 1 to the greatest are new behind others that have none of them
+-- distinct numbers from 1 to the greatest are new after others that have none of them
 news-from : (greatest : ℕ) (before vs : List ℕ) → All (IsBetween 1 (1 + greatest)) vs → IsDistinct eqb vs → ((w : ℕ) → list_any (eqb w) vs ≡ true → list_any (eqb w) before ≡ false) → are_new greatest before vs ≡ true
 news-from greatest before [] a d apart = refl
 news-from greatest before (v ∷ vs) a d apart =

@@ -1,7 +1,8 @@
 -- The form of an image, as a test and as what it says.
-use Rattle.std.proofs.Common.{◌≡◌, ℕ, ◌+◌, ◌<◌, ◌^◌, Bool, true, false, ◌&&◌, ◌||◌, ◌==◌, eqb, nat_lt, nat_le, List, [], ◌∷◌, length, refl, sym, subst, ◌∙◌, arith}
+use Rattle.std.proofs.Common.{◌≡◌, ℕ, ◌+◌, ◌<◌, ◌^◌, true, false, ◌&&◌, eqb, nat_lt, nat_le, List, [], ◌∷◌, length, refl, sym, ◌∙◌, arith}
 use Rattle.std.specs.List.{list_all}
 use Rattle.std.proofs.lemmas.Bool.{false≢true, and_parts, and_from, false_from_ne_true, leb-true, ltb-true, eqb-true, le-leb, lt-ltb, eq-eqb}
+use Rattle.mal_base.specs.Limits.{limits}
 use Rattle.mal_base.specs.Clauses.{rises}
 use Rattle.mal_base.specs.Formulas.{is_within}
 use Rattle.mal_base.specs.NumberedClause.{NumberedClause}
@@ -9,27 +10,16 @@ use Rattle.spec_node.specs.State.{Node, has_profile}
 use Rattle.mal_freeze.specs.Imaged.{IsFormed, IsImage, HasRanges, is_image, has_ranges, has_order, are_literals, is_order, all_follow, are_clauses, numbers_rise}
 use Rattle.mal_freeze.specs.Holding.{can_hold}
 
--- a profile that passes the test is 1, where nothing is counted, or 2
-pub by-profile : (P : ℕ → ℕ → Type 0) (profile count : ℕ) → ((profile == 2) || ((profile == 1) && (count == 0))) ≡ true → P 1 0 → ((c : ℕ) → P 2 c) → P profile count
-by-profile P profile count h one two = by_test (eqb profile 2) refl
-  where
-    by_test : (b : Bool) → eqb profile 2 ≡ b → P profile count
-    by_test true t = subst (λ (p : ℕ). P p count) (sym (eqb-true profile 2 t)) (two count)
-    by_test false t =
-        let left : (eqb profile 1 && eqb count 0) ≡ true = subst (λ (b : Bool). (b || (eqb profile 1 && eqb count 0)) ≡ true) t h in
-        let a = and_parts (eqb profile 1) (eqb count 0) left in
-        subst (λ (p : ℕ). P p count) (sym (eqb-true profile 1 a.0)) (subst (λ (c : ℕ). P 1 c) (sym (eqb-true count 0 a.1)) one)
-
 ranges-are : (n : Node) → has_ranges n ≡ true → HasRanges n
 ranges-are n h =
-    let a = and_parts (nat_le n.index 63 && (nat_le n.variables 65536 && (nat_lt n.serial (2 ^ 57) && nat_le 1 n.restart_number))) (nat_le n.processed (length n.trail + 1) && eqb (length n.phases) n.variables) h in
-    let b = and_parts (nat_le n.index 63) (nat_le n.variables 65536 && (nat_lt n.serial (2 ^ 57) && nat_le 1 n.restart_number)) a.0 in
-    let d = and_parts (nat_le n.variables 65536) (nat_lt n.serial (2 ^ 57) && nat_le 1 n.restart_number) b.1 in
+    let a = and_parts (nat_le n.index 63 && (nat_le n.variables limits.variables && (nat_lt n.serial (2 ^ 57) && nat_le 1 n.restart_number))) (nat_le n.processed (length n.trail + 1) && eqb (length n.phases) n.variables) h in
+    let b = and_parts (nat_le n.index 63) (nat_le n.variables limits.variables && (nat_lt n.serial (2 ^ 57) && nat_le 1 n.restart_number)) a.0 in
+    let d = and_parts (nat_le n.variables limits.variables) (nat_lt n.serial (2 ^ 57) && nat_le 1 n.restart_number) b.1 in
     let e = and_parts (nat_lt n.serial (2 ^ 57)) (nat_le 1 n.restart_number) d.1 in
     let f = and_parts (nat_le n.processed (length n.trail + 1)) (eqb (length n.phases) n.variables) a.1 in
     record {
       index = leb-true n.index 63 b.0;
-      variables = leb-true n.variables 65536 d.0;
+      variables = leb-true n.variables limits.variables d.0;
       serial = ltb-true n.serial (2 ^ 57) e.0;
       restart_number = leb-true 1 n.restart_number e.1;
       processed = leb-true n.processed (length n.trail + 1) f.0;
@@ -38,7 +28,7 @@ ranges-are n h =
 
 has-ranges : (n : Node) → HasRanges n → has_ranges n ≡ true
 has-ranges n r =
-    rw (le-leb n.index 63 r.index, le-leb n.variables 65536 r.variables, lt-ltb n.serial (2 ^ 57) r.serial, le-leb 1 n.restart_number r.restart_number, le-leb n.processed (length n.trail + 1) r.processed, eq-eqb (length n.phases) n.variables r.phases) refl
+    rw (le-leb n.index 63 r.index, le-leb n.variables limits.variables r.variables, lt-ltb n.serial (2 ^ 57) r.serial, le-leb 1 n.restart_number r.restart_number, le-leb n.processed (length n.trail + 1) r.processed, eq-eqb (length n.phases) n.variables r.phases) refl
 
 -- a node that passes the test is an image
 pub image-is : (n : Node) → is_image n ≡ true → IsImage n

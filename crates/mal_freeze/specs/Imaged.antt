@@ -1,5 +1,6 @@
 use Rattle.std.specs.Prelude.{◌≡◌, ℕ, ◌+◌, ◌≤◌, ◌<◌, ◌^◌, Bool, true, not, ◌&&◌, ◌==◌, eqb, nat_lt, nat_le, List, [], ◌∷◌, ◌++◌, length}
 use Rattle.std.specs.List.{list_all, list_any}
+use Rattle.mal_base.specs.Limits.{limits}
 use Rattle.mal_base.specs.Clauses.{rises}
 use Rattle.mal_base.specs.Formulas.{is_within}
 use Rattle.mal_base.specs.NumberedClause.{NumberedClause}
@@ -21,12 +22,12 @@ are_new greatest before (v ∷ vs) = is_new greatest before v && are_new greates
 abbrev pub is_order : ℕ → List ℕ → Bool
 is_order greatest order = (length order == greatest) && are_new greatest [] order
 
--- an entry may stand behind those before: its variable is from 1 to the greatest and has no value yet, and its level is
+-- an entry may stand after those before: its variable is from 1 to the greatest and has no value yet, and its level is
 -- the one reached (0 at the front) or the next
 abbrev pub may_follow : ℕ → List TrailEntry → TrailEntry → Bool
 may_follow greatest before e = (nat_le 1 (var_of e.lit) && nat_le (var_of e.lit) greatest) && (not (has_value before (var_of e.lit)) && (nat_le (level_of before) e.level && nat_le e.level (level_of before + 1)))
 
--- each entry may stand behind those before it
+-- each entry may stand after those before it
 abbrev pub all_follow : ℕ → List TrailEntry → List TrailEntry → Bool
 all_follow greatest before [] = true
 all_follow greatest before (e ∷ es) = may_follow greatest before e && all_follow greatest (before ++ e ∷ []) es
@@ -47,7 +48,7 @@ numbers_rise last (c ∷ cs) = nat_lt last c.id && numbers_rise c.id cs
 -- the ranges of an image's numbers, and its lengths
 pub record HasRanges (n : Node) : Type 0 where
   pub index : n.index ≤ 63
-  pub variables : n.variables ≤ 65536
+  pub variables : n.variables ≤ limits.variables
   pub serial : n.serial < 2 ^ 57
   pub restart_number : 1 ≤ n.restart_number
   -- no more batches count as handled than the trail has prefixes
@@ -67,14 +68,14 @@ pub record IsFormed (n : Node) : Type 0 where
   -- from at least 1
   pub numbers : numbers_rise 0 n.clauses ≡ true
 
--- an image is in form: of profile 1, under which no conflicts are counted for droppings, or of profile 2
+-- an image is in form, and conflicts are counted for droppings only where the profile reduces
 pub record IsImage (n : Node) : Type 0 where
   pub form : IsFormed n
   pub profile : has_profile n ≡ true
 
 -- the same ranges and lengths, as a test
 abbrev pub has_ranges : Node → Bool
-has_ranges n = (nat_le n.index 63 && (nat_le n.variables 65536 && (nat_lt n.serial (2 ^ 57) && nat_le 1 n.restart_number))) && (nat_le n.processed (length n.trail + 1) && (length n.phases == n.variables))
+has_ranges n = (nat_le n.index 63 && (nat_le n.variables limits.variables && (nat_lt n.serial (2 ^ 57) && nat_le 1 n.restart_number))) && (nat_le n.processed (length n.trail + 1) && (length n.phases == n.variables))
 
 -- the lists are in order
 abbrev pub has_order : Node → Bool

@@ -1,4 +1,5 @@
 use Rattle.std.specs.Prelude.{◌≡◌, ◌≢◌, ℕ, ◌+◌, true, ◌<◌, ◌≤◌, ◌^◌, List, ◌∷◌, ◌++◌, length, get_or, replicate, codes, Ok, Err}
+use Rattle.mal_base.specs.declared.profile.Profile.TheVariants.{Plain, Lean}
 use Rattle.spec_node.specs.State.{Node, fresh_with, has_profile}
 use Rattle.spec_node.specs.Sound.{IsSound}
 use Rattle.mal_freeze.specs.declared.fault.ThawFault.{ThawFault}
@@ -12,7 +13,7 @@ use Rattle.mal_freeze.specs.Widths.{Fits}
 abbrev pub SoundIsFormed : Type 0
 SoundIsFormed = (n : Node) → IsSound n → n.serial < 2 ^ 57 → IsFormed n
 
--- so it is in the form of an image, where it has a profile
+-- so it is in the form of an image, where it counts conflicts for droppings as its profile does
 abbrev pub SoundHasImage : Type 0
 SoundHasImage = (n : Node) → IsSound n → n.serial < 2 ^ 57 → has_profile n ≡ true → IsImage n
 
@@ -40,12 +41,12 @@ pub record HasFaultyFront (bytes : List ℕ) (fault : ThawFault) : Type 0 where
   pub ends : EndsWithField fault front
   pub first : (others : List ℕ) → image_in (front ++ others) ≡ Err fault
 
--- nothing behind the faulty field counts
+-- nothing after the faulty field counts
 abbrev pub FaultIsFirst : Type 0
 FaultIsFirst = (bytes : List ℕ) (fault : ThawFault) → image_in bytes ≡ Err fault → fault ≢ Truncated → fault ≢ NotCanonical → HasFaultyFront bytes fault
 
 -- the 65 bytes of the node of index 0 and profile 1 at its first start, and the 69 of that of profile 2: all fields are
 -- 0 but for the number of the restart
 pub record FreshBytes : Type 0 where
-  pub first : image_bytes (fresh_with 0 1) ≡ codes "MALNODE1" ++ (replicate 20 0 ++ (0 ∷ 0 ∷ 0 ∷ 1 ∷ replicate 33 0))
-  pub second : image_bytes (fresh_with 0 2) ≡ codes "MALNODE2" ++ (replicate 20 0 ++ (0 ∷ 0 ∷ 0 ∷ 1 ∷ replicate 37 0))
+  pub first : image_bytes (fresh_with 0 Plain) ≡ codes "MALNODE1" ++ (replicate 20 0 ++ (0 ∷ 0 ∷ 0 ∷ 1 ∷ replicate 33 0))
+  pub second : image_bytes (fresh_with 0 Lean) ≡ codes "MALNODE2" ++ (replicate 20 0 ++ (0 ∷ 0 ∷ 0 ∷ 1 ∷ replicate 37 0))

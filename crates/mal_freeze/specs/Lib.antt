@@ -2,6 +2,7 @@ pub mod Parted
 pub mod Imaged
 pub mod Trailing
 pub mod Laws
+pub mod Forms
 pub mod Spelling
 pub mod Widths
 pub mod Fields

@@ -1,7 +1,9 @@
 -- Reading an image from front to back, with the first fault that is met. A field is read to its value and the bytes
--- behind it. `total` is the length of the whole text.
+-- after it. `total` is the length of the whole text.
 use Rattle.std.specs.Prelude.{◌≡◌, ℕ, zero, suc, ◌+◌, ◌-◌, ◌*◌, ◌^◌, Bool, true, ◌&&◌, ◌||◌, List, [], ◌∷◌, length, take, drop, Option, Some, None, Result, Ok, Err, nat_lt, ◌==◌, if◌then◌else◌}
 use Rattle.std.specs.Int.{Width, w32, w64, byte_len, from_be_bytes}
+use Rattle.mal_base.specs.Limits.{limits}
+use Rattle.mal_base.specs.declared.profile.Profile.{Profile}
 use Rattle.mal_base.specs.NumberedClause.{NumberedClause}
 use Rattle.mal_base.specs.declared.trail_entry.TrailEntry.{TrailEntry}
 use Rattle.mal_base.specs.declared.verdict.Verdict.{Verdict}
@@ -15,14 +17,14 @@ use Rattle.mal_freeze.specs.declared.fields.Ended.{Ended}
 use Rattle.mal_freeze.specs.declared.fields.Fields.{Fields}
 use Rattle.mal_freeze.specs.Fields.{Listing}
 use Rattle.mal_freeze.specs.Imaged.{is_image}
-use Rattle.mal_freeze.specs.Spelling.{magic}
+use Rattle.mal_freeze.specs.Forms.{form_of, profile_named}
 
 infixl 10 ◌>>=◌
 abbrev pub ◌>>=◌ : {A B : Type 0} → Result A ThawFault → (A → Result B ThawFault) → Result B ThawFault
 (Ok x) >>= f = f x
 (Err e) >>= f = Err e
 
--- what was answered is the fault that reading meets, unless memory was wanting
+-- what was answered is the fault that reading meets, unless memory ran out
 abbrev pub Fails : {Y : Type 0} → ThawFault → Result Y ThawFault → Type 0
 Fails BadMagic read = read ≡ Err BadMagic
 Fails Truncated read = read ≡ Err Truncated
@@ -30,7 +32,7 @@ Fails (BadField place) read = read ≡ Err (BadField place)
 Fails NotCanonical read = read ≡ Err NotCanonical
 Fails OutOfMemory read = Unit {0}
 
--- what was answered, in this view, is what reading gives, unless memory was wanting
+-- what was answered, in this view, is what reading gives, unless memory ran out
 abbrev pub Gives : {X Y : Type 0} → (X → Y) → Result X ThawFault → Result Y ThawFault → Type 0
 Gives view (Ok x) read = read ≡ Ok (view x)
 Gives view (Err e) read = Fails e read
@@ -102,27 +104,32 @@ clause_at total greatest bytes = do
   lits ← counted_at total greatest (literal_at total greatest) id.1
   Ok (record { id = id.0; lits = lits.0 }, lits.1)
 
+-- a profile, if one is named, with the bytes after its name
+abbrev pub named : Option Profile → List ℕ → Result (Profile × List ℕ) ThawFault
+named None rest = Err BadMagic
+named (Some profile) rest = Ok (profile, rest)
+
 -- the profile that the first 8 bytes name
-unfoldable pub profile_at : List ℕ → Result (ℕ × List ℕ) ThawFault
+unfoldable pub profile_at : List ℕ → Result (Profile × List ℕ) ThawFault
 profile_at bytes = do
   n ← number_at w64 bytes
-  if n.0 == magic 1 then Ok (1, n.1) else if n.0 == magic 2 then Ok (2, n.1) else Err BadMagic
+  named (profile_named n.0) n.1
 
 -- the index, the variables, the serial, and the conflicts since the last restart
 unfoldable pub head_at : ℕ → List ℕ → Result (Head × List ℕ) ThawFault
 head_at total bytes = do
   index ← ranged_at total w32 0 63 bytes
-  variables ← ranged_at total w32 0 65536 index.1
+  variables ← ranged_at total w32 0 limits.variables index.1
   serial ← ranged_at total w64 0 (2 ^ 57 - 1) variables.1
   conflicts_since_restart ← number_at w32 serial.1
   Ok (record { index = index.0; variables = variables.0; serial = serial.0; conflicts_since_restart = conflicts_since_restart.0 }, conflicts_since_restart.1)
 
 -- the conflicts since the last dropping, which stand where the profile counts them
-unfoldable pub dropping_at : ℕ → List ℕ → Result (ℕ × List ℕ) ThawFault
-dropping_at profile bytes = if profile == 2 then number_at w32 bytes else Ok (0, bytes)
+unfoldable pub dropping_at : Profile → List ℕ → Result (ℕ × List ℕ) ThawFault
+dropping_at profile bytes = if (form_of profile).counts then number_at w32 bytes else Ok (0, bytes)
 
 -- the number of the restart, the conflicts since the last dropping, the batches handled, and the waiting conflict
-unfoldable pub search_at : ℕ → ℕ → List ℕ → Result (Search × List ℕ) ThawFault
+unfoldable pub search_at : ℕ → Profile → List ℕ → Result (Search × List ℕ) ThawFault
 search_at total profile bytes = do
   restart_number ← ranged_at total w32 1 (2 ^ 32 - 1) bytes
   conflicts_since_dropping ← dropping_at profile restart_number.1

@@ -1,19 +1,17 @@
 -- The bytes of an image, in the form of the node's profile. Numbers have their greatest byte first.
-use Rattle.std.specs.Prelude.{ℕ, Bool, true, false, ◌==◌, if◌then◌else◌, List, [], ◌∷◌, ◌++◌, length, flat_map, codes, Option, Some, None}
-use Rattle.std.specs.Int.{Width, w32, w64, to_be_bytes, from_be_bytes}
+use Rattle.std.specs.Prelude.{ℕ, Bool, true, false, if◌then◌else◌, List, [], ◌∷◌, ◌++◌, length, flat_map, Option, Some, None}
+use Rattle.std.specs.Int.{Width, w32, w64, to_be_bytes}
+use Rattle.mal_base.specs.declared.profile.Profile.{Profile}
 use Rattle.mal_base.specs.NumberedClause.{NumberedClause}
 use Rattle.mal_base.specs.declared.trail_entry.TrailEntry.{TrailEntry}
 use Rattle.mal_base.specs.declared.verdict.Verdict.{Verdict}
 use Rattle.mal_base.specs.declared.verdict.Verdict.TheVariants.{Satisfiable, Unsatisfiable}
 use Rattle.spec_node.specs.State.{Node}
+use Rattle.mal_freeze.specs.Forms.{form_of}
 
 -- a number in 4 or 8 bytes
 unfoldable pub spelled : Width → ℕ → List ℕ
 spelled w n = to_be_bytes w n
-
--- each image of a profile begins with these 8 bytes, here as one number
-abbrev pub magic : ℕ → ℕ
-magic profile = if profile == 2 then from_be_bytes w64 (codes "MALNODE2") else from_be_bytes w64 (codes "MALNODE1")
 
 -- the number of a clause, 0 for none
 abbrev pub number_or_0 : Option ℕ → ℕ
@@ -57,8 +55,8 @@ abbrev pub head_bytes : Node → List ℕ
 head_bytes n = spelled w32 n.index ++ (spelled w32 n.variables ++ (spelled w64 n.serial ++ spelled w32 n.conflicts_since_restart))
 
 -- the conflicts since the last dropping, where the profile counts them
-abbrev pub dropping_bytes : ℕ → ℕ → List ℕ
-dropping_bytes profile count = if profile == 2 then spelled w32 count else []
+abbrev pub dropping_bytes : Profile → ℕ → List ℕ
+dropping_bytes profile count = if (form_of profile).counts then spelled w32 count else []
 
 -- the number of the restart, the conflicts since the last dropping, the batches handled, and the waiting conflict
 abbrev pub search_bytes : Node → List ℕ
@@ -74,4 +72,4 @@ list_bytes n = counted (spelled w32) n.assumptions ++ (flat_map (spelled w32) n.
 
 -- an image
 abbrev pub image_bytes : Node → List ℕ
-image_bytes n = spelled w64 (magic n.profile) ++ (head_bytes n ++ (search_bytes n ++ (verdict_bytes n.verdict ++ list_bytes n)))
+image_bytes n = spelled w64 (form_of n.profile).magic ++ (head_bytes n ++ (search_bytes n ++ (verdict_bytes n.verdict ++ list_bytes n)))

@@ -1,11 +1,11 @@
 //! The fields of an image, as they are read.
 
 use crate::numbered::Numbered;
-use mal_base::{ClauseId, Lit, TrailEntry, Var};
+use mal_base::{ClauseId, Lit, Profile, TrailEntry, Var};
 use std::marker::Model;
 
-/// The index (0 to 63), the variables (up to 65,536), the serial (below 2^57), and the conflicts since the last
-/// restart.
+/// The index (0 to 63), the variables (up to those that are served), the serial (below 2^57), and the conflicts since
+/// the last restart.
 #[derive(Clone, Copy)]
 pub struct Head {
     pub index: u32,
@@ -55,10 +55,10 @@ impl Model for Lists {
     } };
 }
 
-/// All fields of an image of this profile, and how many bytes are left over behind them.
+/// All fields of an image of this profile, and how many bytes are left over after them.
 #[derive(Drop)]
 pub struct Fields {
-    pub profile: u32,
+    pub profile: Profile,
     pub head: Head,
     pub search: Search,
     pub ended: Ended,

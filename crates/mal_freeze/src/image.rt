@@ -1,20 +1,23 @@
 //! The image of a node.
 
-ghost use Rattle.std.specs.Prelude.{◌≡◌, ◌==◌, ◌||◌, ◌&&◌, ◌≤◌, ◌↔◌, IsTrue, IfOk, MatchOption};
+ghost use Rattle.std.specs.Prelude.{◌≡◌, ◌≤◌, ◌↔◌, IsTrue, IfOk, MatchOption};
+ghost use Rattle.mal_base.specs.Profiles.{policy, may_stand};
 ghost use Rattle.mal_freeze.specs.{Imaged.{IsImage, HasRanges}, Parted.{node_of}};
 
 use crate::parts::Parts;
 use crate::scan;
+use mal_base::{LIMITS, Profile, Reduction};
 use mal_trail::Trail;
 use std::alloc::{AllocError, Global};
 use std::marker::Model;
 
 /// The plain form of a node, whose numbers are in their ranges and whose lists are in order: the index is at most 63,
-/// the profile 1 or 2, the variables at most 65,536, the serial below 2^57, the number of the restart at least 1; under
-/// profile 1 no conflicts count for a dropping; no more batches count as handled than the trail has prefixes; the
-/// assumptions and the literals of a clause rise by variable; the order has each variable once; each variable has a
-/// phase; no variable stands twice on the trail, whose levels rise by one at most; the numbers of the clauses rise.
-/// Contracts see the node. An image copies, so that after want of memory node and image are both as before.
+/// the variables at most those that are served, the serial below 2^57, the number of the restart at least 1; under a
+/// profile that reduces nothing no conflicts count for a dropping; no more batches count as handled than the trail has
+/// prefixes; the assumptions and the literals of a clause rise by variable; the order has each variable once; each
+/// variable has a phase; no variable stands twice on the trail, whose levels rise by one at most; the numbers of the
+/// clauses rise. Contracts see the node. An image copies, so that where memory runs out node and image are both as
+/// before.
 #[derive(Drop)]
 pub struct Image {
     parts: Parts,
@@ -86,7 +89,7 @@ impl Image {
 fn is_image(alloc: Global, parts: &Parts) -> Result<bool, AllocError>
     ensures { IfOk result (λ b. IsTrue b ↔ IsImage (node_of parts.now)) }
 {
-    if !has_profile(parts.profile, parts.conflicts_since_dropping) {
+    if !may_stand(parts.profile, parts.conflicts_since_dropping) {
         return Ok(false);
     }
     if !has_ranges(parts) {
@@ -115,7 +118,7 @@ fn has_ranges(parts: &Parts) -> bool
     if 63 < parts.index {
         return false;
     }
-    if 65_536 < parts.variables {
+    if LIMITS.variables < parts.variables {
         return false;
     }
     if 1 << 57 <= parts.serial {
@@ -131,8 +134,11 @@ fn has_ranges(parts: &Parts) -> bool
 }
 
 /// Whether so many conflicts may count for a dropping under a profile.
-fn has_profile(profile: u32, conflicts_since_dropping: u32) -> bool
-    ensures { result ≡ ((profile == 2) || ((profile == 1) && (conflicts_since_dropping == 0))) }
+fn may_stand(profile: Profile, conflicts_since_dropping: u32) -> bool
+    ensures { result ≡ may_stand (policy profile).reduction conflicts_since_dropping }
 {
-    profile == 2 || (profile == 1 && conflicts_since_dropping == 0)
+    match profile.policy().reduction {
+        Reduction::Never => conflicts_since_dropping == 0,
+        Reduction::After { .. } => true,
+    }
 }

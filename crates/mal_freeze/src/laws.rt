@@ -2,7 +2,8 @@
 
 ghost use Rattle.mal_freeze.specs.Laws.{FaultIsFirst, SoundIsFormed, SoundHasImage, ReadIsSpelled, SpelledIsRead, FreshBytes};
 
-/// A sound node of a serial below 2^57 is in form, and so, with profile 1 or 2, in the form of an image.
+/// A sound node of a serial below 2^57 is in form, and so, where it counts conflicts as its profile does, in the form
+/// of an image.
 pub fn sound_has_image()
     ensures form { SoundIsFormed }
     ensures image { SoundHasImage }

@@ -3,6 +3,7 @@
 
 mod fault;
 mod fields;
+mod form;
 mod image;
 mod laws;
 mod numbered;

@@ -2,20 +2,16 @@
 
 ghost use Rattle.std.specs.Prelude.{◌≡◌, ℕ, ◌≤◌, ◌+◌, ◌-◌, ◌*◌, ◌<◌, List, Result, length, IfOk};
 ghost use Rattle.std.specs.Int.{w32, w64};
+ghost use Rattle.mal_base.specs.Limits.{greatest_variable, limits};
 ghost use Rattle.mal_freeze.specs.{declared.fault.ThawFault.{ThawFault}, declared.fault.ThawFault.TheVariants.{BadField}, Reading.{Gives, place_of, number_at, ranged_at, byte_at, many_at, counted_at, literal_at, variable_at, number_in, phase_at, entry_at, clause_at, profile_at, dropping_at, head_at, search_at, ended_at, lists_at, fields_at}};
 
 use crate::fault::ThawFault;
 use crate::fields::{Ended, Fields, Head, Lists, Search};
+use crate::form::{Form, profile_named};
 use crate::numbered::Numbered;
-use mal_base::{ClauseId, Lit, TrailEntry, Var};
+use mal_base::{ClauseId, LIMITS, Lit, Profile, TrailEntry, Var};
 use smallvec::SmallVec;
 use std::alloc::Global;
-
-/// The first 8 bytes of each image of profile 1, `MALNODE1`, as one number.
-pub const MAGIC_1: u64 = 0x4d41_4c4e_4f44_4531;
-
-/// Those of each image of profile 2, `MALNODE2`.
-pub const MAGIC_2: u64 = 0x4d41_4c4e_4f44_4532;
 
 /// The fault of a field that begins where these bytes do.
 fn bad_field(total: usize, bytes: &[u8]) -> ThawFault
@@ -27,7 +23,7 @@ fn bad_field(total: usize, bytes: &[u8]) -> ThawFault
     }
 }
 
-/// The 4 bytes at the front as a number, and the bytes behind them.
+/// The 4 bytes at the front as a number, and the bytes after them.
 #[tactic(auto, unfolding(crate::specs::Reading::number_at))]
 fn u32_at(bytes: &[u8]) -> Result<(u32, &[u8]), ThawFault>
     ensures { Gives (λ x. (x.0, x.1.now)) result (number_at w32 bytes.now) }
@@ -40,7 +36,7 @@ fn u32_at(bytes: &[u8]) -> Result<(u32, &[u8]), ThawFault>
     Ok((number, rest))
 }
 
-/// The 8 bytes at the front as a number, and the bytes behind them.
+/// The 8 bytes at the front as a number, and the bytes after them.
 #[tactic(auto, unfolding(crate::specs::Reading::number_at))]
 fn u64_at(bytes: &[u8]) -> Result<(u64, &[u8]), ThawFault>
     ensures { Gives (λ x. (x.0, x.1.now)) result (number_at w64 bytes.now) }
@@ -97,10 +93,10 @@ fn u8_within(total: usize, high: u8, bytes: &[u8]) -> Result<(u8, &[u8]), ThawFa
     }
 }
 
-/// The literal of this code, which is that of a variable up to 65,536.
+/// The literal of this code, which is twice that of a variable, or one more.
 fn literal_of(code: u32) -> Lit
     requires low { 2 ≤ code }
-    requires high { code < 131074 }
+    requires high { code < 2 * greatest_variable + 2 }
     ensures { result ≡ code }
 {
     Var::of(code / 2).literal(code % 2 == 0)
@@ -121,7 +117,7 @@ fn literals(
     count: u32,
     bytes: &[u8],
 ) -> Result<(SmallVec<Lit, 4>, &[u8]), ThawFault>
-    requires { greatest ≤ 65536 }
+    requires { greatest ≤ greatest_variable }
     ensures { Gives (λ x. (x.0.items, x.1.now)) result (many_at (literal_at total greatest) count bytes.now) }
 {
     let mut all = SmallVec::new(alloc);
@@ -143,7 +139,7 @@ fn counted_literals(
     greatest: u32,
     bytes: &[u8],
 ) -> Result<(SmallVec<Lit, 4>, &[u8]), ThawFault>
-    requires { greatest ≤ 65536 }
+    requires { greatest ≤ greatest_variable }
     ensures { Gives
         (λ x. (x.0.items, x.1.now)) result (counted_at total greatest (literal_at total greatest) bytes.now) }
 {
@@ -153,17 +149,17 @@ fn counted_literals(
 
 /// A field of which an image has lists. `greatest` is the greatest variable.
 trait Field: Drop {
-    /// What the field at the front of these bytes is read to, with the bytes behind it, or the fault.
+    /// What the field at the front of these bytes is read to, with the bytes after it, or the fault.
     ghost at: { ℕ → ℕ → List ℕ → Result (Self × List ℕ) ThawFault };
 
-    /// The field at the front, and the bytes behind it.
+    /// The field at the front, and the bytes after it.
     fn read(
         alloc: Global,
         total: usize,
         greatest: u32,
         bytes: &[u8],
     ) -> Result<(Self, &[u8]), ThawFault>
-        requires { greatest ≤ 65536 }
+        requires { greatest ≤ greatest_variable }
         ensures { Gives (λ x. (x.0, x.1.now)) result (at total greatest bytes.now) };
 }
 
@@ -259,7 +255,7 @@ fn many<F: Field>(
     count: u32,
     bytes: &[u8],
 ) -> Result<(Vec<F>, &[u8]), ThawFault>
-    requires { greatest ≤ 65536 }
+    requires { greatest ≤ greatest_variable }
     ensures { Gives (λ x. (x.0.items, x.1.now)) result (many_at (F.at total greatest) count bytes.now) }
 {
     let mut all = Vec::new(alloc);
@@ -285,34 +281,31 @@ fn counted<F: Field>(
     most: u32,
     bytes: &[u8],
 ) -> Result<(Vec<F>, &[u8]), ThawFault>
-    requires { greatest ≤ 65536 }
+    requires { greatest ≤ greatest_variable }
     ensures { Gives (λ x. (x.0.items, x.1.now)) result (counted_at total most (F.at total greatest) bytes.now) }
 {
     let (count, rest) = u32_within(total, 0, most, bytes)?;
     many(alloc, total, greatest, count, rest)
 }
 
-/// The profile that the first 8 bytes name, and what stands behind them.
+/// The profile that the first 8 bytes name, and what stands after them.
 #[tactic(auto, unfolding(crate::specs::Reading::profile_at))]
-fn profile(bytes: &[u8]) -> Result<(u32, &[u8]), ThawFault>
+fn profile(bytes: &[u8]) -> Result<(Profile, &[u8]), ThawFault>
     ensures { Gives (λ x. (x.0, x.1.now)) result (profile_at bytes.now) }
 {
     let (number, rest) = u64_at(bytes)?;
-    if number == MAGIC_1 {
-        return Ok((1, rest));
+    match profile_named(number) {
+        None => Err(ThawFault::BadMagic),
+        Some(profile) => Ok((profile, rest)),
     }
-    if number == MAGIC_2 {
-        return Ok((2, rest));
-    }
-    Err(ThawFault::BadMagic)
 }
 
 /// The conflicts since the last dropping, which stand where the profile counts them.
 #[tactic(auto, unfolding(crate::specs::Reading::dropping_at))]
-fn dropping(profile: u32, bytes: &[u8]) -> Result<(u32, &[u8]), ThawFault>
+fn dropping(profile: Profile, bytes: &[u8]) -> Result<(u32, &[u8]), ThawFault>
     ensures { Gives (λ x. (x.0, x.1.now)) result (dropping_at profile bytes.now) }
 {
-    if profile == 2 {
+    if Form::of(profile).counts {
         u32_at(bytes)
     } else {
         Ok((0, bytes))
@@ -323,10 +316,10 @@ fn dropping(profile: u32, bytes: &[u8]) -> Result<(u32, &[u8]), ThawFault>
 #[tactic(auto, unfolding(crate::specs::Reading::head_at))]
 fn head(total: usize, bytes: &[u8]) -> Result<(Head, &[u8]), ThawFault>
     ensures value { Gives (λ x. (x.0, x.1.now)) result (head_at total bytes.now) }
-    ensures bound { IfOk result (λ x. x.0.variables ≤ 65536) }
+    ensures bound { IfOk result (λ x. x.0.variables ≤ limits.variables) }
 {
     let (index, rest) = u32_within(total, 0, 63, bytes)?;
-    let (variables, rest) = u32_within(total, 0, 65_536, rest)?;
+    let (variables, rest) = u32_within(total, 0, LIMITS.variables, rest)?;
     let (serial, rest) = u64_within(total, 0, (1 << 57) - 1, rest)?;
     let (conflicts_since_restart, rest) = u32_at(rest)?;
     Ok((
@@ -342,7 +335,7 @@ fn head(total: usize, bytes: &[u8]) -> Result<(Head, &[u8]), ThawFault>
 
 /// The number of the restart, the conflicts since the last dropping, the batches handled, and the waiting conflict.
 #[tactic(auto, unfolding(crate::specs::Reading::search_at))]
-fn search(total: usize, profile: u32, bytes: &[u8]) -> Result<(Search, &[u8]), ThawFault>
+fn search(total: usize, profile: Profile, bytes: &[u8]) -> Result<(Search, &[u8]), ThawFault>
     ensures { Gives (λ x. (x.0, x.1.now)) result (search_at total profile bytes.now) }
 {
     let (restart_number, rest) = u32_within(total, 1, u32::MAX, bytes)?;
@@ -378,7 +371,7 @@ fn lists(
     greatest: u32,
     bytes: &[u8],
 ) -> Result<(Lists, &[u8]), ThawFault>
-    requires { greatest ≤ 65536 }
+    requires { greatest ≤ greatest_variable }
     ensures { Gives (λ x. (x.0, x.1.now)) result (lists_at total greatest bytes.now) }
 {
     let (assumptions, rest) = counted::<Lit>(alloc, total, greatest, greatest, bytes)?;

@@ -1,7 +1,7 @@
 //! What the parts of an image are tested for.
 
 ghost use Rattle.std.specs.Prelude.{◌≡◌, ◌≤◌, [], true, false, IfOk, MatchOption};
-ghost use Rattle.mal_base.specs.Formulas.{is_within};
+ghost use Rattle.mal_base.specs.{Limits.{greatest_variable}, Formulas.{is_within}};
 ghost use Rattle.mal_freeze.specs.{Imaged.{are_new, is_order, may_follow, all_follow, are_literals, are_clauses, numbers_rise}, Trailing.{IsTrailOf}};
 
 use mal_base::{Clause, Lit, NumberedClause, TrailEntry, Var};
@@ -66,7 +66,7 @@ pub fn numbers_rise(clauses: &[NumberedClause]) -> bool
 
 /// Whether each of the variables 1 to the greatest stands here once.
 pub fn is_order(alloc: Global, greatest: u32, order: &[Var]) -> Result<bool, AllocError>
-    requires { greatest ≤ 65536 }
+    requires { greatest ≤ greatest_variable }
     ensures { IfOk result (λ b. b ≡ is_order greatest order.now) }
 {
     if order.len() != greatest as usize {
@@ -77,7 +77,7 @@ pub fn is_order(alloc: Global, greatest: u32, order: &[Var]) -> Result<bool, All
 
 /// Whether each of these variables is at most the greatest, and none stands twice.
 fn are_new(alloc: Global, greatest: u32, order: &[Var]) -> Result<bool, AllocError>
-    requires { greatest ≤ 65536 }
+    requires { greatest ≤ greatest_variable }
     ensures { IfOk result (λ b. b ≡ are_new greatest [] order.now) }
 {
     let mut marks = Vec::new(alloc);
@@ -96,13 +96,13 @@ fn are_new(alloc: Global, greatest: u32, order: &[Var]) -> Result<bool, AllocErr
 }
 
 /// The trail of these entries, with room for the variables up to the greatest. None exactly where one of them may not
-/// stand behind those before it.
+/// stand after those before it.
 pub fn trail_of(
     alloc: Global,
     greatest: u32,
     entries: &[TrailEntry],
 ) -> Result<Option<Trail>, AllocError>
-    requires { greatest ≤ 65536 }
+    requires { greatest ≤ greatest_variable }
     ensures { IfOk result
         (λ o. MatchOption o (all_follow greatest [] entries.now ≡ false) (λ t. IsTrailOf greatest entries.now t)) }
 {
@@ -117,7 +117,7 @@ pub fn trail_of(
     Ok(Some(trail))
 }
 
-/// Whether an entry of a variable up to the greatest may stand behind those of a trail.
+/// Whether an entry of a variable up to the greatest may stand after those of a trail.
 fn may_follow(greatest: u32, trail: &Trail, entry: TrailEntry) -> bool
     ensures { result ≡ may_follow greatest trail.now.entries entry }
 {

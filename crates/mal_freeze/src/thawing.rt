@@ -26,7 +26,7 @@ pub fn thaw(alloc: Global, bytes: &[u8]) -> Result<Image, ThawFault>
     }
 }
 
-/// The image of bytes that are known to spell one: nothing is judged again. The only fault left is want of memory.
+/// The image of bytes that are known to spell one: nothing is judged again. The only fault left is out of memory.
 pub fn thaw_known(alloc: Global, bytes: &[u8]) -> Result<Image, AllocError>
     requires { IfErr (image_in bytes.now) (λ _. ⊥) }
     ensures { IfOk result (λ i. image_in bytes.now ≡ Ok i) }

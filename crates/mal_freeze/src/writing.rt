@@ -2,15 +2,15 @@
 
 ghost use Rattle.std.specs.Prelude.{◌≡◌, ℕ, ◌<◌, ◌^◌, ◌++◌, List, Ok, length, flat_map, IfOk, OnOk};
 ghost use Rattle.std.specs.{Int.{w32, w64}, List.{AllByRecursion}};
-ghost use Rattle.mal_freeze.specs.{Parted.{node_of}, Reading.{image_in}, Spelling.{spelled, magic, dropping_bytes, number_or_0, code_of, goal_of, counted, phase_bytes, entry_bytes, clause_bytes, head_bytes, search_bytes, verdict_bytes, list_bytes, image_bytes}, Widths.{FitsNumber, FitsGoal, FitsEntry, FitsClause, FitsCounts, FitsLists, Fits}};
+ghost use Rattle.mal_freeze.specs.{Parted.{node_of}, Reading.{image_in}, Spelling.{spelled, dropping_bytes, number_or_0, code_of, goal_of, counted, phase_bytes, entry_bytes, clause_bytes, head_bytes, search_bytes, verdict_bytes, list_bytes, image_bytes}, Widths.{FitsNumber, FitsGoal, FitsEntry, FitsClause, FitsCounts, FitsLists, Fits}};
 
+use crate::form::Form;
 use crate::image::Image;
 use crate::parts::Parts;
-use crate::reading::{MAGIC_1, MAGIC_2};
-use mal_base::{ClauseId, Lit, NumberedClause, TrailEntry, Var, Verdict, grown};
+use mal_base::{ClauseId, Lit, NumberedClause, Profile, TrailEntry, Var, Verdict, grown};
 use std::alloc::{AllocError, Global};
 
-/// The one spelling of an image, which `thaw` reads again. More clauses than 32 bits count are want of memory too.
+/// The one spelling of an image, which `thaw` reads again. More clauses than 32 bits count are out of memory too.
 pub fn freeze(alloc: Global, image: &Image) -> Result<Vec<u8>, AllocError>
     ensures spelled { IfOk result (λ v. v.items ≡ image_bytes image.now) }
     ensures again { IfOk result (λ v. image_in v.items ≡ Ok image.now) }
@@ -25,7 +25,7 @@ fn bytes_of(alloc: Global, parts: &Parts) -> Result<Vec<u8>, AllocError>
     ensures fits { IfOk result (λ _. Fits (node_of parts.now)) }
 {
     let mut out = Vec::new(alloc);
-    put_u64(&mut out, magic(parts.profile))?;
+    put_u64(&mut out, Form::of(parts.profile).magic)?;
     put_head(&mut out, parts)?;
     put_search(&mut out, parts)?;
     put_verdict(&mut out, &parts.verdict)?;
@@ -33,14 +33,7 @@ fn bytes_of(alloc: Global, parts: &Parts) -> Result<Vec<u8>, AllocError>
     Ok(out)
 }
 
-/// The first 8 bytes of the images of a profile, as one number.
-fn magic(profile: u32) -> u64
-    ensures { result ≡ magic profile }
-{
-    if profile == 2 { MAGIC_2 } else { MAGIC_1 }
-}
-
-/// Puts a number of 4 bytes behind the others.
+/// Puts a number of 4 bytes after the others.
 #[tactic(auto, unfolding(crate::specs::Spelling::spelled))]
 fn put_u32(out: &mut Vec<u8>, number: u32) -> Result<(), AllocError>
     ensures spelled { OnOk result (out.new.items ≡ out.old.items ++ spelled w32 number) }
@@ -49,7 +42,7 @@ fn put_u32(out: &mut Vec<u8>, number: u32) -> Result<(), AllocError>
     out.extend_from_slice(&number.to_be_bytes())
 }
 
-/// Puts a number of 8 bytes behind the others.
+/// Puts a number of 8 bytes after the others.
 #[tactic(auto, unfolding(crate::specs::Spelling::spelled))]
 fn put_u64(out: &mut Vec<u8>, number: u64) -> Result<(), AllocError>
     ensures spelled { OnOk result (out.new.items ≡ out.old.items ++ spelled w64 number) }
@@ -58,7 +51,7 @@ fn put_u64(out: &mut Vec<u8>, number: u64) -> Result<(), AllocError>
     out.extend_from_slice(&number.to_be_bytes())
 }
 
-/// Puts a count behind the others, where 32 bits hold it.
+/// Puts a count after the others, where 32 bits hold it.
 fn put_count(out: &mut Vec<u8>, count: usize) -> Result<(), AllocError>
     ensures spelled { OnOk result (out.new.items ≡ out.old.items ++ spelled w32 count) }
     ensures fits { OnOk result (count < 2 ^ 32) }
@@ -78,7 +71,7 @@ fn number_or_0(id: Option<ClauseId>) -> u64
     }
 }
 
-/// Puts the index, the variables, the serial, and the conflicts since the last restart behind the others.
+/// Puts the index, the variables, the serial, and the conflicts since the last restart after the others.
 fn put_head(out: &mut Vec<u8>, parts: &Parts) -> Result<(), AllocError>
     ensures spelled { OnOk result (out.new.items ≡ out.old.items ++ head_bytes (node_of parts.now)) }
     ensures fits { OnOk result (parts.now.conflicts_since_restart < 2 ^ 32) }
@@ -90,7 +83,7 @@ fn put_head(out: &mut Vec<u8>, parts: &Parts) -> Result<(), AllocError>
 }
 
 /// Puts the number of the restart, the conflicts since the last dropping where the profile counts them, the batches
-/// handled, and the waiting conflict behind the others.
+/// handled, and the waiting conflict after the others.
 fn put_search(out: &mut Vec<u8>, parts: &Parts) -> Result<(), AllocError>
     ensures spelled { OnOk result (out.new.items ≡ out.old.items ++ search_bytes (node_of parts.now)) }
     ensures fits { OnOk result (FitsCounts (node_of parts.now)) }
@@ -101,19 +94,19 @@ fn put_search(out: &mut Vec<u8>, parts: &Parts) -> Result<(), AllocError>
     put_u64(out, number_or_0(parts.conflict))
 }
 
-/// Puts the conflicts since the last dropping behind the others, where the profile counts them.
-fn put_dropping(out: &mut Vec<u8>, profile: u32, count: u32) -> Result<(), AllocError>
+/// Puts the conflicts since the last dropping after the others, where the profile counts them.
+fn put_dropping(out: &mut Vec<u8>, profile: Profile, count: u32) -> Result<(), AllocError>
     ensures spelled { OnOk result (out.new.items ≡ out.old.items ++ dropping_bytes profile count) }
     ensures fits { count < 2 ^ 32 }
 {
-    if profile == 2 {
+    if Form::of(profile).counts {
         put_u32(out, count)
     } else {
         Ok(())
     }
 }
 
-/// Puts a verdict behind the others, and its goal.
+/// Puts a verdict after the others, and its goal.
 fn put_verdict(out: &mut Vec<u8>, verdict: &Option<Verdict>) -> Result<(), AllocError>
     ensures spelled { OnOk result (out.new.items ≡ out.old.items ++ verdict_bytes verdict.now) }
     ensures fits { OnOk result (FitsGoal verdict.now) }
@@ -149,7 +142,7 @@ fn goal_of(verdict: &Option<Verdict>) -> u64
     }
 }
 
-/// Puts the lists behind the others: the assumptions, the order and the phases, the trail, and the clauses.
+/// Puts the lists after the others: the assumptions, the order and the phases, the trail, and the clauses.
 fn put_lists(out: &mut Vec<u8>, parts: &Parts) -> Result<(), AllocError>
     ensures spelled { OnOk result (out.new.items ≡ out.old.items ++ list_bytes (node_of parts.now)) }
     ensures fits { OnOk result (FitsLists (node_of parts.now)) }
@@ -169,7 +162,7 @@ trait Piece {
     /// That its numbers fit the fields.
     ghost fits: { Self → Type 0 };
 
-    /// Puts it behind the others.
+    /// Puts it after the others.
     fn put(&self, out: &mut Vec<u8>) -> Result<(), AllocError>
         ensures spelled { OnOk result (out.new.items ≡ out.old.items ++ spelled self.now) }
         ensures fits { OnOk result (fits self.now) };
@@ -234,7 +227,7 @@ impl Piece for NumberedClause {
     }
 }
 
-/// Puts pieces behind the others.
+/// Puts pieces after the others.
 fn put_each<P: Piece>(out: &mut Vec<u8>, pieces: &[P]) -> Result<(), AllocError>
     ensures spelled { OnOk result (out.new.items ≡ out.old.items ++ flat_map P.spelled pieces.now) }
     ensures fits { OnOk result (AllByRecursion P.fits pieces.now) }
@@ -245,7 +238,7 @@ fn put_each<P: Piece>(out: &mut Vec<u8>, pieces: &[P]) -> Result<(), AllocError>
     Ok(())
 }
 
-/// Puts a count and so many pieces behind the others.
+/// Puts a count and so many pieces after the others.
 fn put_counted<P: Piece>(out: &mut Vec<u8>, pieces: &[P]) -> Result<(), AllocError>
     ensures spelled { OnOk result (out.new.items ≡ out.old.items ++ counted P.spelled pieces.now) }
     ensures fits { OnOk result (AllByRecursion P.fits pieces.now) }

@@ -357,7 +357,7 @@ lodged-is x m k index worker o l is out taken found events =
 pub lodged-may : (past : List Event) (worker : ℕ) (l : Leased) (outcome : Outcome) (back : Option Finished) → IsLodged past worker l → IsBackOf l outcome back → MayEnd past worker back
 lodged-may past worker l outcome back lodged came = subst (λ (w : ℕ). MayEnd past w back) lodged.worker_is (finish-may past lodged.held l outcome back lodged.out lodged.handed_is came)
 
--- so may what is kept of its node, where it wanted for memory
+-- so may what is kept of its node, where it ran out of memory
 pub unrun-may : (past : List Event) (worker : ℕ) (l : Leased) (kept : Kept) → IsLodged past worker l → journal_of kept ≡ l.journal → is_gone kept ≡ l.gone → MayEnd past worker (Some (unrun worker kept))
 unrun-may past worker l kept lodged journal gone =
     let worker_is : worker ≡ l.worker = sym (ap (λ (h : Handed). h.worker) lodged.handed_is ∙ lodged.worker_is) in
@@ -367,7 +367,7 @@ unrun-may past worker l kept lodged journal gone =
 pub lost-may : (past : List Event) (worker : ℕ) (l : Leased) → IsLodged past worker l → MayEnd past worker None
 lost-may past worker l lodged = lodged-may past worker l Lost None lodged (record { outcome_is = refl; comes = tt })
 
--- what may end a start that wanted for memory
+-- what may end a start that ran out of memory
 pub starve-may : (v : JobView) (index worker : ℕ) (kept : Kept) → MayFinish v index (Some (unrun worker kept)) → MayStarve v index (Some kept)
 starve-may v index worker kept b = record { out = ap (λ (o : Option Lease). is_some o) b.out; own = b.journal }
 

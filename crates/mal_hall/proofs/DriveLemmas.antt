@@ -137,7 +137,7 @@ turn-done v w past middle now lease d answer same some bound legal home called w
         }
     by_answer (Strange kept) strange = absurd (strange.call.0 held of_lease)
 
--- turns behind turns of as many workers
+-- turns after turns of as many workers
 pub turns-behind : (v w : ℕ) (a b c : List Event) → v ≡ w → GrowsByTurns w a b → GrowsByTurns v b c → GrowsByTurns w a c
 turns-behind v w a b c same one two = turns-more w a b c one (subst (λ (x : ℕ). GrowsByTurns x b c) same two)
 

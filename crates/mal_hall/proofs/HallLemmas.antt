@@ -5,6 +5,7 @@ use Rattle.std.specs.List.{list_any}
 use Rattle.std.proofs.lemmas.List.{map-append}
 use Rattle.std.proofs.lemmas.List.Sums.{sum_by-cons}
 use Rattle.std.proofs.lemmas.Option.{slice_get_read}
+use Rattle.mal_base.specs.Limits.{limits}
 use Rattle.mal_base.specs.Asks.{Terms, Weighed, IsAsk}
 use Rattle.mal_base.specs.Names.{is_name}
 use Rattle.mal_revision.specs.Posted.{Posted, is_posted}
@@ -176,7 +177,7 @@ pub hall-above : (x : Inside) → IsHall x → IsAbove x.comings x.seats
 hall-above x hall = seats-above x.entries.workers x.entries.events x.seats x.spots x.comings hall.seated hall.spots hall.noted.comings_is
 
 -- a job is opened
-pub may-open : (x : Inside) (k : Key) (ask : Terms) (jobs : ℕ) → IsHall x → is_name k.tenant ≡ true → is_name k.job ≡ true → IsAsk ask → list_any (is_key k) (names_of x.entries.events) ≡ false → jobs ≡ jobs_of k.tenant (names_of x.entries.events) → jobs < 64 → (jobs ≡ 0 → x.tenants < 64) → MayOpen x.entries.events k ask
+pub may-open : (x : Inside) (k : Key) (ask : Terms) (jobs : ℕ) → IsHall x → is_name k.tenant ≡ true → is_name k.job ≡ true → IsAsk ask → list_any (is_key k) (names_of x.entries.events) ≡ false → jobs ≡ jobs_of k.tenant (names_of x.entries.events) → jobs < limits.jobs_of_tenant → (jobs ≡ 0 → x.tenants < limits.tenants) → MayOpen x.entries.events k ask
 may-open x k ask jobs hall tenant job asked fresh count few others = record {
   tenant = tenant;
   job = job;
@@ -273,7 +274,7 @@ pub hall-next : (x : Inside) (k : Key) (t : KeyedJob) (number : ℕ) → Found x
 hall-next x k t number found next = next ∙ ap (λ (o : Option KeyedJob). option_map_or (λ (u : KeyedJob). length u.state.revisions + 1) o 1) (sym found.job)
 
 -- a revision may be posted
-pub may-revise : (x : Inside) (k : Key) (at : ℕ) (s : Seat) (r : Posted) → IsHall x → Sits x.seats k at s → s.job.titled.state.closed ≡ false → length s.job.titled.state.revisions < 256 → HasRoomFor s.job.titled.state.revisions r → is_posted r ≡ true → MayRevise x.entries.events k (length s.job.titled.state.revisions + 1) r s.job.titled
+pub may-revise : (x : Inside) (k : Key) (at : ℕ) (s : Seat) (r : Posted) → IsHall x → Sits x.seats k at s → s.job.titled.state.closed ≡ false → length s.job.titled.state.revisions < limits.revisions → HasRoomFor s.job.titled.state.revisions r → is_posted r ≡ true → MayRevise x.entries.events k (length s.job.titled.state.revisions + 1) r s.job.titled
 may-revise x k at s r hall sits still few fits posted = record {
   job = (hall-found x k at s hall sits).job;
   open_still = still;

@@ -2,6 +2,7 @@
 use Rattle.std.proofs.Common.{◌≡◌, ℕ, zero, suc, ◌+◌, ◌<◌, ◌≤◌, Bool, true, false, cond, List, [], ◌∷◌, length, drop, map, slice_get, Option, Some, None, option_map, is_some, Err, refl, sym, ◌∙◌, ap, arith}
 use Rattle.std.specs.List.{list_any}
 use Rattle.std.proofs.lemmas.Bool.{both_ways}
+use Rattle.mal_base.specs.Limits.{limits}
 use Rattle.mal_base.specs.declared.hall_fault.AdmitFault.TheVariants.{Present}
 use Rattle.spec_job.specs.KeyedJob.{Key, KeyedJob}
 use Rattle.spec_hall.specs.Calls.{IsAdmission, MayCome}
@@ -76,7 +77,7 @@ come-known past k away known = record {
 }
 
 -- and a new one where there are not too many
-pub come-new : (past : List Event) (k : Key) (jobs tenants : ℕ) → job_of k (states past) ≡ None → jobs ≡ jobs_of k.tenant (names_of past) → tenants ≡ tenant_count (names_of past) → jobs < 64 → (jobs ≡ 0 → tenants < 64) → MayCome past k
+pub come-new : (past : List Event) (k : Key) (jobs tenants : ℕ) → job_of k (states past) ≡ None → jobs ≡ jobs_of k.tenant (names_of past) → tenants ≡ tenant_count (names_of past) → jobs < limits.jobs_of_tenant → (jobs ≡ 0 → tenants < limits.tenants) → MayCome past k
 come-new past k jobs tenants away count tenants_is few others = record {
   absent = away;
   tenant_room = λ new. omega (arith, count, few);

@@ -6,6 +6,7 @@ use Rattle.std.proofs.lemmas.Bool.{or_parts}
 use Rattle.std.proofs.lemmas.Bool.Decides.{Decides-eqb}
 use Rattle.std.proofs.lemmas.List.{map-append}
 use Rattle.std.proofs.lemmas.List.Sums.{sum_by-cons, sum_by-append}
+use Rattle.mal_base.specs.Limits.{limits}
 use Rattle.mal_base.specs.Names.{is_name}
 use Rattle.mal_base.specs.declared.hall_fault.AdmitFault.{AdmitFault}
 use Rattle.mal_base.specs.declared.hall_fault.AdmitFault.TheVariants.{Present, TenantFull, HallFull, OutOfMemory}
@@ -102,12 +103,12 @@ hall-go x k t hall job none = may-go x.entries.workers x.entries.events k t hall
 
 -- no tenant has more than 64 names
 abbrev HasFewNames : List Event → Type 0
-HasFewNames past = (tenant : List ℕ) → jobs_of tenant (names_of past) ≤ 64
+HasFewNames past = (tenant : List ℕ) → jobs_of tenant (names_of past) ≤ limits.jobs_of_tenant
 
-name-few : (k : Key) (names : List Key) (tenant : List ℕ) → jobs_of tenant names ≤ 64 → (list_any (is_key k) names ≡ false → jobs_of k.tenant names < 64) → jobs_of tenant (with_key k names) ≤ 64
+name-few : (k : Key) (names : List Key) (tenant : List ℕ) → jobs_of tenant names ≤ limits.jobs_of_tenant → (list_any (is_key k) names ≡ false → jobs_of k.tenant names < limits.jobs_of_tenant) → jobs_of tenant (with_key k names) ≤ limits.jobs_of_tenant
 name-few k names tenant few room = by_test (list_any (is_key k) names) refl
   where
-    by_tenant : list_any (is_key k) names ≡ false → (b : Bool) → is_text tenant k.tenant ≡ b → jobs_of tenant (names ++ k ∷ []) ≤ 64
+    by_tenant : list_any (is_key k) names ≡ false → (b : Bool) → is_text tenant k.tenant ≡ b → jobs_of tenant (names ++ k ∷ []) ≤ limits.jobs_of_tenant
     by_tenant new true q =
         let same : tenant ≡ k.tenant = (is_text-Decides tenant k.tenant).0 q in
         let here : jobs_of tenant names ≡ jobs_of k.tenant names = ap (λ (x : List ℕ). jobs_of x names) same in
@@ -117,11 +118,11 @@ name-few k names tenant few room = by_test (list_any (is_key k) names) refl
         let none : of_tenant tenant k ≡ 0 = ap (λ (b : Bool). if b then 1 else 0) q in
         omega (arith, jobs_of-push tenant names k, none, few)
 
-    by_test : (b : Bool) → list_any (is_key k) names ≡ b → jobs_of tenant (cond b names (names ++ k ∷ [])) ≤ 64
+    by_test : (b : Bool) → list_any (is_key k) names ≡ b → jobs_of tenant (cond b names (names ++ k ∷ [])) ≤ limits.jobs_of_tenant
     by_test true q = few
     by_test false q = by_tenant q (is_text tenant k.tenant) refl
 
-step-few : (w : ℕ) (past : List Event) (e : Event) → Allowed w past e → HasFewNames past → (tenant : List ℕ) → jobs_of tenant (names_step (names_of past) e) ≤ 64
+step-few : (w : ℕ) (past : List Event) (e : Event) → Allowed w past e → HasFewNames past → (tenant : List ℕ) → jobs_of tenant (names_step (names_of past) e) ≤ limits.jobs_of_tenant
 step-few w past (Open k ask) may few tenant = name-few k (names_of past) tenant (few tenant) (λ new. may.tenant_room)
 step-few w past (Revise k number r) may few tenant = few tenant
 step-few w past (Reask k weight) may few tenant = few tenant
@@ -134,12 +135,12 @@ step-few w past (Leave k) may few tenant = few tenant
 step-few w past (Arrive k brought) may few tenant = name-few k (names_of past) tenant (few tenant) may.tenant_room
 
 event-few : (w : ℕ) (past : List Event) (e : Event) → Allowed w past e → HasFewNames past → HasFewNames (past ++ e ∷ [])
-event-few w past e may few tenant = subst (λ (ks : List Key). jobs_of tenant ks ≤ 64) (sym (names-push past e)) (step-few w past e may few tenant)
+event-few w past e may few tenant = subst (λ (ks : List Key). jobs_of tenant ks ≤ limits.jobs_of_tenant) (sym (names-push past e)) (step-few w past e may few tenant)
 
 few-names : (w : ℕ) (past : List Event) → Legal w past → HasFewNames past
 few-names w past legal = legal_from-keeps w HasFewNames (λ h e may few. event-few w h e may few) [] past legal (λ tenant. omega arith)
 
-pub hall-few : (x : Inside) (tenant : List ℕ) → IsHall x → jobs_at x.names.tenants tenant ≤ 64
+pub hall-few : (x : Inside) (tenant : List ℕ) → IsHall x → jobs_at x.names.tenants tenant ≤ limits.jobs_of_tenant
 hall-few x tenant hall = omega (arith, hall.noted.named.jobs tenant, few-names x.entries.workers x.entries.events hall.seated.legal tenant)
 
 -- a job that may come may arrive where its parcel is in form
@@ -256,7 +257,7 @@ hall-leave x y k at s t hall sits may workers entered key seats spots starts unc
 pub hall-there : (past : List Event) (k : Key) (t : KeyedJob) → MayLeave past k t → job_of k (states past) ≡ None → ⊥
 hall-there past k t may absent = let both : Some t ≡ None = sym may.job ∙ absent in cc
 
--- a job is packed, or memory is wanting to that
+-- a job is packed, or memory runs out to that
 pub packs-job : (w : ℕ) (past : List Event) (k : Key) (t : KeyedJob) (p : Parcelled) (o : Option ℕ) → t.key ≡ k → MayLeave past t.key t → o ≡ first_out t.state → o ≡ None → p ≡ record { key = t.key; own = brought_by t.key past } → HasCalled w past (Packs k) (Ok p.own) past
 packs-job w past k t p o key may first none is =
     called-none w past (Packs k) (Ok p.own) (t, subst (λ (j : Key). MayLeave past j t) key may, sym first ∙ none, ap (λ (q : Parcelled). q.own) is ∙ ap (λ (j : Key). brought_by j past) key, refl)
@@ -265,7 +266,7 @@ pub packs-none : (w : ℕ) (past : List Event) (k : Key) (t : KeyedJob) → t.ke
 packs-none w past k t key may = called-none w past (Packs k) (Err packing.OutOfMemory) (t, subst (λ (j : Key). MayLeave past j t) key may, refl)
 
 -- a further tenant has room
-pub tenants-few : (x : Inside) (k : Key) (jobs : ℕ) → IsHall x → MayCome x.entries.events k → jobs ≡ jobs_at x.names.tenants k.tenant → jobs ≡ 0 → x.tenants < 64
+pub tenants-few : (x : Inside) (k : Key) (jobs : ℕ) → IsHall x → MayCome x.entries.events k → jobs ≡ jobs_at x.names.tenants k.tenant → jobs ≡ 0 → x.tenants < limits.tenants
 tenants-few x k jobs hall come count none =
     let room = come.hall_room (sym (count ∙ hall.noted.named.jobs k.tenant) ∙ none) in
     omega (arith, hall.noted.tenants_is, room)

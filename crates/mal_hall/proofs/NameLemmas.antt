@@ -63,7 +63,7 @@ jobs-known m n tenant jobs before number known is updates other =
     by_test true = refl
     by_test false = refl
 
--- and one for a name that is new, where the count is written again behind that
+-- and one for a name that is new, where the count is written again after that
 pub jobs-more : (m n o : BTreeMap (List ℕ) ℕ) (tenant : List ℕ) (jobs : ℕ) (before : Option ℕ) → before ≡ None → jobs ≡ jobs_at m tenant → ((q : List ℕ) → tree.get name_cmp n q ≡ cond (tree.is_at (name_cmp tenant) q) (Some jobs) (tree.get name_cmp m q)) → ((q : List ℕ) → tree.get name_cmp o q ≡ cond (tree.is_at (name_cmp tenant) q) (Some (jobs + 1)) (tree.get name_cmp n q)) → (other : List ℕ) → jobs_at o other ≡ jobs_at m other + one (is_text tenant other && is_none before)
 jobs-more m n o tenant jobs before new is first second other = jobs-update n o tenant (jobs + 1) second other ∙ (by_test (is_text tenant other) refl (jobs-kept m n tenant jobs is first other) ∙ sym (ap (λ (b : Option ℕ). jobs_at m other + one (is_text tenant other && is_none b)) new))
   where

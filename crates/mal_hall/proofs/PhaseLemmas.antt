@@ -449,7 +449,7 @@ exchange-left w past now some legal has = subst (λ (h : List Event). left_in h 
 -- how what is due is entered in one step
 pub ruleset arranging = (arranged-none, arranged-balance, arranged-exchange)
 
--- one behind the other
+-- one after the other
 pub arranged-more : (v w : ℕ) (a b c : List Event) → v ≡ w → HasArranged w a b → HasArranged v b c → HasArranged w a c
 arranged-more v w a b c same one two =
     let next : AreDue w b two.events = subst (λ (n : ℕ). AreDue n b two.events) same two.due in

@@ -72,7 +72,7 @@ pub record IsLodged (past : List Event) (worker : ℕ) (l : Leased) : Type 0 whe
   pub out : lease_of held.worker (leases past) ≡ Some held
   pub handed_is : handed_of l ≡ handed past held
 
--- what comes of a lease that wanted for memory, of which this is kept of the node
+-- what comes of a lease that ran out of memory, of which this is kept of the node
 abbrev pub unrun : ℕ → Kept → Finished
 unrun worker kept = finished worker Starved kept [] None []
 

@@ -31,7 +31,7 @@ pub record IsWorked (l : Handed) (d : Finished) : Type 0 where
   pub journal : IsGrownBy d.outcome l.adds l.journal d.journal
   pub tells : Tells d.outcome d
 
--- the event of a post behind a history
+-- the event of a post after a history
 abbrev pub event_of : List Event → Post → Event
 event_of past (posts.Open tenant job ask) = entered.Open (keyed tenant job) ask
 event_of past (posts.Revise tenant job r) = entered.Revise (keyed tenant job) (next_number (keyed tenant job) past) r

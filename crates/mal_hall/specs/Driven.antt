@@ -17,8 +17,8 @@ pub record HasWorkedOff (workers : ℕ) (past : List Event) (lease : Leased) (no
   pub answer : Return
   pub given : HasCalled workers past (Finishes done) answer now
 
--- what a turn leaves, behind which nothing is out: true where a lease was worked off, false where the worker got none and
--- nothing was left to do, and an error where its pick wanted for memory, behind which nothing was done
+-- what a turn leaves, after which nothing is out: true where a lease was worked off, false where the worker got none
+-- and nothing was left to do, and an error where its pick ran out of memory, after which nothing was done
 pub record IsTurn {E : Type 0} (workers : ℕ) (past : List Event) (went : Result Bool E) (now : List Event) : Type 0 where
   pub turns : GrowsByTurns workers past now
   pub home : leases now ≡ []

@@ -22,7 +22,7 @@ use std::alloc::AllocError;
 impl Hall {
     /// Enters this one event, a Revise with the revision that is given. It is not allowed exactly where it may not come
     /// after the events before it, a Revise without a revision among them. The lease of a start stays inside the hall:
-    /// where the event says that the start ran it is worked there, where it says that memory was wanting it is given
+    /// where the event says that the start ran it is worked there, where it says that memory ran out it is given
     /// back as it was, and where it says that the start was lost it is dropped. Each lease that is out has to be
     /// inside, as it is in a new hall, after each event that was entered so, and wherever none is out and none inside.
     /// The hall is given up where the event is not entered.
@@ -270,8 +270,8 @@ impl Hall {
         }
     }
 
-    /// Ends a lease that was kept inside as its start ended: one that ran is worked off, one that wanted for memory
-    /// is given back as it was, and one that was lost is dropped. A slice that wants for memory now is refused.
+    /// Ends a lease that was kept inside as its start ended: one that ran is worked off, one that ran out of memory
+    /// is given back as it was, and one that was lost is dropped. A slice that runs out of memory now is refused.
     fn end_lodged(
         &mut self,
         worker: u32,
@@ -299,7 +299,7 @@ impl Hall {
         Ok(())
     }
 
-    /// Ends the lease that a worker has out as one that wanted for memory, of which this is kept of the node. It takes
+    /// Ends the lease that a worker has out as one that ran out of memory, of which this is kept of the node. It takes
     /// no error that says so: the history that is entered does. So nothing but the entering of one calls it.
     fn end_starved(&mut self, worker: u32, kept: Kept)
         requires some { 1 ≤ worker }
@@ -348,7 +348,8 @@ impl Hall {
     }
 }
 
-/// Why the opening of a job is not entered that is refused so: for want of memory exactly where it was refused for that.
+/// Why the opening of a job is not entered that is refused so: when out of memory exactly where it was refused for
+/// that.
 fn refusal_to_open(fault: OpenFault) -> ApplyFault
     ensures refused { result ≡ ApplyFault.NotAllowed → (k : Key) (ask : Terms) → wanted (Opens k ask) (Err fault) ≡ false }
     ensures wanting { (result ≡ ApplyFault.OutOfMemory) ↔ (fault ≡ OpenFault.OutOfMemory) }
@@ -361,7 +362,7 @@ fn refusal_to_open(fault: OpenFault) -> ApplyFault
     }
 }
 
-/// Why a revision is not entered that is refused so: for want of memory exactly where it was refused for that.
+/// Why a revision is not entered that is refused so: when out of memory exactly where it was refused for that.
 fn refusal_to_revise(fault: ReviseFault) -> ApplyFault
     ensures refused { result ≡ ApplyFault.NotAllowed → (k : Key) (r : Posted) → wanted (Revises k r) (Err fault) ≡ false }
     ensures wanting { (result ≡ ApplyFault.OutOfMemory) ↔ (fault ≡ ReviseFault.OutOfMemory) }
@@ -375,7 +376,7 @@ fn refusal_to_revise(fault: ReviseFault) -> ApplyFault
     }
 }
 
-/// Why it is not entered that a job asks anew, which is refused so: for want of memory exactly where it was refused for
+/// Why it is not entered that a job asks anew, which is refused so: when out of memory exactly where it was refused for
 /// that.
 fn refusal_to_reask(fault: ReaskFault) -> ApplyFault
     ensures refused { result ≡ ApplyFault.NotAllowed → (k : Key) (w : Weighed) → wanted (Reasks k w) (Err fault) ≡ false }

@@ -3,6 +3,7 @@
 ghost use Rattle.std.specs.Prelude.{◌≡◌, ◌+◌, ◌<◌, ◌≤◌, ◌^◌, [], ◌∷◌, ◌++◌, true, length, None, Some, IfOk, OnOk, OnErr};
 ghost use Rattle.std.specs.List.{remove};
 ghost use Rattle.mal_hall.specs.{Named.{AreAlike, HasNoted, jobs_at}, Turned.{HasWaited, IsBalancing}};
+ghost use Rattle.mal_base.specs.Limits.{limits};
 ghost use Rattle.mal_base.specs.declared.verdict.Outcome.TheVariants.{Starved};
 ghost use Rattle.mal_job.specs.Finishing.{outcome_of, MayFinish, MayStarve};
 ghost use Rattle.mal_seats.specs.{Changed.{OfSeat, IsChanged}, Numbered.{IsAbove}};
@@ -111,7 +112,7 @@ pub fn enter_arrive(
 }
 
 /// Seats a job that arrives under a number above those of all others, and notes its name. Answers whether the job is
-/// closed. After want of memory it is not there.
+/// closed. If memory runs out, it is not there.
 fn seat_arrival(
     alloc: Global,
     seats: &mut Seats,
@@ -144,7 +145,7 @@ fn seat_arrival(
     }
 }
 
-/// Unpacks a job and gives it a seat behind all others. Answers whether the job is closed.
+/// Unpacks a job and gives it a seat after all others. Answers whether the job is closed.
 fn admit(alloc: Global, seats: &mut Seats, number: u64, parcel: &Parcel) -> Result<bool, AllocError>
     requires { IsAbove number seats.old }
     ensures seats { OnOk result
@@ -160,7 +161,7 @@ fn admit(alloc: Global, seats: &mut Seats, number: u64, parcel: &Parcel) -> Resu
     Ok(is_closed)
 }
 
-/// Notes the name of a job that comes. After want of memory the names lead where they led.
+/// Notes the name of a job that comes. If memory runs out, the names lead where they led.
 fn note(names: &mut Names, entrant: Entrant) -> Result<(), AllocError>
     requires { jobs_at names.old.tenants entrant.tenant < 2 ^ 63 }
     ensures noted { OnOk result
@@ -181,9 +182,9 @@ pub fn enter_revise(
     owed: usize,
 ) -> Result<(), AllocError>
     requires place { at < length seats.old }
-    requires few { OfSeat seats.old at (λ s. length s.job.titled.state.revisions < 256) }
+    requires few { OfSeat seats.old at (λ s. length s.job.titled.state.revisions < limits.revisions) }
     requires clauses { OfSeat seats.old at
-        (λ s. clauses_in s.job.titled.state.revisions + length revision.clauses ≤ 1048576) }
+        (λ s. clauses_in s.job.titled.state.revisions + length revision.clauses ≤ limits.clauses) }
     requires owed { owed < 2 ^ 63 + 65 }
     ensures workers { entries.new.workers ≡ entries.old.workers }
     ensures events { OnOk result
@@ -333,7 +334,7 @@ pub fn enter_finish(
     });
 }
 
-/// Ends a start of the job at a place as one that wanted for memory, of which this is kept of the node, and enters it,
+/// Ends a start of the job at a place as one that ran out of memory, of which this is kept of the node, and enters it,
 /// for which there is room.
 pub fn enter_starved(
     entries: &mut EventList,

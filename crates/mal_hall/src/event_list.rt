@@ -5,8 +5,8 @@ ghost use Rattle.mal_hall.specs.Entered.{brought_of, full, posted_of};
 ghost use Rattle.spec_hall.specs.{Dressed.{keyed}, Events.{Arrive, Revise, bare}, Own.{own}};
 
 use crate::content::Content;
-use crate::telling::{JobKey, own_among};
-use mal_base::Name;
+use crate::telling::own_among;
+use mal_base::{Key, Name};
 use mal_history::{Event, History};
 use mal_parcel::Owned;
 use mal_revision::Revision;
@@ -71,7 +71,7 @@ impl EventList {
         &self.history
     }
 
-    /// Makes room for so many more events, and for what stands at them. After want of memory the events are as before.
+    /// Makes room for so many more events, and for what stands at them. If memory runs out, the events are as before.
     pub fn reserve(&mut self, events: usize) -> Result<(), AllocError>
         ensures room { OnOk result (events ≤ self.new.room) }
         ensures more { self.old.room ≤ self.new.room }
@@ -103,7 +103,7 @@ impl EventList {
         ensures { IfOk result (λ o. o ≡ own (keyed tenant.now job.now) self.now.events) }
     {
         let alloc = *self.contents.allocator();
-        let key = JobKey {
+        let key = Key {
             tenant: *tenant,
             job: *job,
         };

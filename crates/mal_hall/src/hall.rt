@@ -4,7 +4,7 @@ ghost use Rattle.std.specs.Prelude.{◌≡◌, ◌↔◌, ◌+◌, ◌-◌, ◌<
 ghost use Rattle.std.specs.Option.{option_copied};
 ghost use Rattle.mal_base.specs.{Asks.{IsAsk}, Names.{is_name}};
 ghost use Rattle.mal_hall.specs.{Applied.{IsInside, listed_last}, Offered.{HasArranged, HasBalanced, HasEnded, HasExchanged, HasStarted, IsFirst, MayEnd, MayStartAt, handed_of, offered, replied, returned}, HallView.{next_number}, Driven.{HasWorkedOff, IsTurn}, Replying.{AnswersRightly, HasJob, OfAlone, OfJob}};
-ghost use Rattle.mal_job.specs.{Among.{among}, Finishing.{outcome_of}, Replying.{Tells, TellsReply}};
+ghost use Rattle.mal_job.specs.{Among.{among}, Findings.{Finds}, Finishing.{outcome_of}, Replying.{Tells, TellsReply}};
 ghost use Rattle.spec_hall.specs.{Calls.{HasCalled, IsOfLease, Opens, Revises, Reasks, Closes, Picks, Finishes, Recalls, Asks, is_over}, Dressed.{keyed, revisions_of}, Driven.{GrowsByTurns, IsAtEnd, IsCalm}, Events.{Open, Revise, Reask, Close, bare}, Leases.{start_number}, States.{LeaseOut, keys_of, states, lives, leases, lease_of, balanced, exchange_due}, Legal.{IsBalanceDue, Legal, job_of}, Measure.{left_in}};
 ghost use Rattle.spec_job.specs.{Models.{AnswersSolve}, Proofs.{AnswersRefute}, Provenance.{ClausesAreOwn}, KeyedJob.{KeyedJob}};
 ghost use Rattle.spec_hall.specs.States as states_of;
@@ -24,7 +24,7 @@ use mal_base::{
     Ask, CloseFault, Name, OpenFault, PickFault, ReaskFault, ReplyFault, ReviseFault, Weight, grown,
 };
 use mal_history::{Event, History, Shares};
-use mal_job::Job;
+use mal_job::{Finding, Job};
 use mal_learn::Scratch;
 use mal_report::Told;
 use mal_revision::Revision;
@@ -285,6 +285,26 @@ impl Hall {
         }
     }
 
+    /// What is found of a revision of a job, numbered from 1: None exactly where it is not answered. It is what `answer`
+    /// gives but for the lines of a proof, and no lines are made. A job that is not there is `NoJob`, however much memory
+    /// there is.
+    pub fn finding(&self, tenant: &Name, job: &Name, r: u32) -> Result<Option<Finding>, ReplyFault>
+        ensures found { IfOk result
+            (λ found. HasJob (keyed tenant.now job.now) self.now.events (Finds r found)) }
+        ensures no_job { IsErrOf result ReplyFault.NoJob
+            → job_of (keyed tenant.now job.now) (states self.now.events) ≡ None }
+        ensures out_of_memory { IsErrOf result ReplyFault.OutOfMemory
+            → (t : KeyedJob) × (job_of (keyed tenant.now job.now) (states self.now.events) ≡ Some t) }
+    {
+        let Some(job) = self.job_named(tenant, job) else {
+            return Err(ReplyFault::NoJob);
+        };
+        match job.finding(r) {
+            Ok(found) => Ok(found),
+            Err(_) => Err(ReplyFault::OutOfMemory),
+        }
+    }
+
     /// The history: the events that were entered, in their order.
     pub fn history(&self) -> &History
         ensures workers { result.now.workers ≡ self.now.workers }
@@ -325,6 +345,7 @@ impl Hall {
         ensures some { 1 ≤ self.now.workers }
         ensures bound { self.now.workers ≤ 64 }
     {
+        // A job that left or arrived may leave the list of live jobs as it was; its volume has to be given anew all the same.
         self.moved || self.seats.is_due()
     }
 
@@ -352,7 +373,7 @@ impl Hall {
         self.seats.is_done() && count_out(&self.spots) == 0
     }
 
-    /// Enters a balancing that is due. After want of memory nothing is entered.
+    /// Enters a balancing that is due. If memory runs out, nothing is entered.
     pub(crate) fn balance(&mut self) -> Result<(), AllocError>
         requires due { IsBalanceDue self.old.events }
         ensures workers { self.new.workers ≡ self.old.workers }
@@ -366,7 +387,7 @@ impl Hall {
         Ok(())
     }
 
-    /// Enters an exchange of the first job of which it is due, where no balancing is. After want of memory nothing is
+    /// Enters an exchange of the first job of which it is due, where no balancing is. If memory runs out, nothing is
     /// entered.
     pub(crate) fn exchange_at(&mut self, at: usize) -> Result<(), AllocError>
         requires calm { Some (lives (states self.old.events)) ≡ balanced self.old.events }
@@ -384,7 +405,7 @@ impl Hall {
         Ok(())
     }
 
-    /// Enters a balancing if it is due. After want of memory nothing is entered.
+    /// Enters a balancing if it is due. If memory runs out, nothing is entered.
     #[tactic(auto, using(crate::proofs::PhaseLemmas::arranging))]
     fn balance_due(&mut self) -> Result<(), AllocError>
         ensures workers { self.new.workers ≡ self.old.workers }
@@ -423,7 +444,7 @@ impl Hall {
         Ok(true)
     }
 
-    /// Enters the balancing if it is due, then each exchange that is due, by opening. After want of memory what was
+    /// Enters the balancing if it is due, then each exchange that is due, by opening. If memory runs out, what was
     /// entered stays.
     fn arrange(&mut self) -> Result<(), AllocError>
         ensures workers { self.new.workers ≡ self.old.workers }
@@ -439,8 +460,8 @@ impl Hall {
         Ok(())
     }
 
-    /// Starts a node of the job at this place, which a worker may start, and makes room for the finish. After want of
-    /// memory nothing is entered.
+    /// Starts a node of the job at this place, which a worker may start, and makes room for the finish. If memory runs
+    /// out, nothing is entered.
     pub(crate) fn start_at(
         &mut self,
         at: usize,
@@ -454,9 +475,11 @@ impl Hall {
             (λ lease. HasStarted self.old.workers self.old.events self.new.events index worker lease) }
         ensures err { OnErr result (self.new.events ≡ self.old.events) }
     {
+        // A start's number tells its lease from all others, so none comes twice.
         grown(self.starts as usize, 1, usize::MAX)?;
         let start = self.starts + 1;
         let spot = Spot::new(self.seats.at(at).job().number(), index, start);
+        // The finish of this start is owed from here on, so that it is entered without memory.
         let owed = owed(&self.entries, &self.seats, self.unclosed, &self.spots);
         let lease = match enter_start(
             &mut self.entries,
@@ -474,9 +497,9 @@ impl Hall {
         Ok(lease)
     }
 
-    /// Hands a node out to a worker, 1 to the number of workers, behind the balancing and the exchanges that are due:
+    /// Hands a node out to a worker, 1 to the number of workers, after the balancing and the exchanges that are due:
     /// the one that was started least often, then by its job's opening, then by index. It waits where no node may
-    /// start, and all is done where every job is closed and answered and nothing is out. After want of memory the
+    /// start, and all is done where every job is closed and answered and nothing is out. If memory runs out, the
     /// balancing and the exchanges that were entered stay.
     pub fn pick(&mut self, worker: u32) -> Result<Pick, PickFault>
         requires some { 1 ≤ worker }
@@ -534,6 +557,7 @@ impl Hall {
         let Some(at) = self.seats.place_of_number(spot.job()) else {
             unreachable!();
         };
+        // A worker may come with a lease that was recalled, or of another hall: only the journal tells.
         if !self.seats.at(at).is_back(spot.index(), back) {
             return Err(Some(spot.start()));
         }
@@ -599,7 +623,7 @@ impl Hall {
     }
 
     /// Runs the jobs until nothing is left to do, turn by turn, as worker 1: every job is closed and answered, or
-    /// nothing is due and no node may start. After want of memory the events entered so far stay, no lease is out, and
+    /// nothing is due and no node may start. If memory runs out, the events entered so far stay, no lease is out, and
     /// the hall may be driven again.
     pub fn drive(&mut self, scratch: &mut Scratch) -> Result<(), AllocError>
         requires home { leases self.old.events ≡ [] }

@@ -11,7 +11,7 @@ use mal_suspend::{Done, Lease};
 use std::alloc::AllocError;
 use std::sync::Arc;
 
-/// Works a lease off. A slice that wants for memory is refused, with the error that says so.
+/// Works a lease off. A slice that runs out of memory is refused, with the error that says so.
 pub fn ran(lease: Lease, scratch: &mut Scratch) -> Result<Done, AllocError>
     ensures { IfOk result (λ done. IsBackOf lease Ran (Some done)) }
 {

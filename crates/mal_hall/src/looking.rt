@@ -8,7 +8,7 @@ ghost use Rattle.spec_hall.specs.Turns as turns;
 use crate::hall::Hall;
 use crate::places::place_of;
 use crate::room::may_come;
-use mal_base::{AdmitFault, Name};
+use mal_base::{AdmitFault, Key, Name};
 use mal_seats::Seats;
 
 impl Hall {
@@ -43,23 +43,25 @@ impl Hall {
         }
     }
 
-    /// The tenant and the name of the first live job.
-    pub fn first_live(&self) -> Option<(Name, Name)>
-        ensures { option_map (λ x. keyed x.0 x.1) result ≡ turns.first_live self.now.events }
+    /// The key of the first live job.
+    pub fn first_live(&self) -> Option<Key>
+        ensures { result ≡ turns.first_live self.now.events }
     {
         first_live(&self.seats)
     }
 }
 
-/// The tenant and the name of the first live job of these.
-fn first_live(seats: &Seats) -> Option<(Name, Name)>
-    ensures { option_map (λ x. keyed x.0 x.1) result
-        ≡ option_map (λ l. l.key) (slice_get (lives (jobs_in seats.now)) 0) }
+/// The key of the first live job of these.
+fn first_live(seats: &Seats) -> Option<Key>
+    ensures { result ≡ option_map (λ l. l.key) (slice_get (lives (jobs_in seats.now)) 0) }
 {
     for at in 0..seats.len() {
         let seat = seats.at(at);
         if seat.is_live() {
-            return Some((seat.job().tenant(), seat.job().name()));
+            return Some(Key {
+                tenant: seat.job().tenant(),
+                job: seat.job().name(),
+            });
         }
     }
     None

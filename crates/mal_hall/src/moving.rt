@@ -1,7 +1,7 @@
 //! The calls by which jobs move from hall to hall.
 
 ghost use Rattle.std.specs.Prelude.{◌≡◌, ◌+◌, ◌<◌, ◌≤◌, [], ◌∷◌, ◌++◌, true, None, Some, IfOk, IfErr, OnOk, OnErr};
-ghost use Rattle.mal_base.specs.Names.{is_name};
+ghost use Rattle.mal_base.specs.{Limits.{limits}, Names.{is_name}};
 ghost use Rattle.mal_hall.specs.Moving.{admitted, new_one, open_one, packed};
 ghost use Rattle.spec_hall.specs.{Calls.{Admits, HasCalled, IsAdmission, Leaves, MayCome, Packs, first_out}, Dressed.{keyed}, Events.{Arrive}, Legal.{MayArrive, MayLeave, job_of}, Own.{brought_by, own, volume_after}, States.{states}};
 ghost use Rattle.spec_job.specs.{Counts.{starts_out}, KeyedJob.{KeyedJob}, Lawful.{IsLawful}, SoloMachine.{solo}};
@@ -94,7 +94,7 @@ impl Hall {
         self.admission(&tenant, &job)
     }
 
-    /// Takes in a job that may come. After want of memory the hall is as before.
+    /// Takes in a job that may come. If memory runs out, the hall is as before.
     fn arrive(&mut self, parcel: &Parcel) -> Result<(), AllocError>
         requires { MayCome self.old.events parcel.now.key }
         ensures workers { self.new.workers ≡ self.old.workers }
@@ -185,7 +185,7 @@ fn open_one(is_closed: bool) -> usize
 
 /// How many of so many tenants there are after a job came of one that had so many names.
 fn tenants_with(tenants: usize, jobs: usize) -> usize
-    requires { jobs ≡ 0 → tenants < 64 }
+    requires { jobs ≡ 0 → tenants < limits.tenants }
     ensures { result ≡ tenants + new_one jobs }
 {
     if jobs == 0 {

@@ -45,7 +45,7 @@ impl Names {
         }
     }
 
-    /// Notes the number of a job that comes. After want of memory what is found is as before.
+    /// Notes the number of a job that comes. If memory runs out, what is found is as before.
     pub fn note(&mut self, tenant: Name, job: Name, number: u64) -> Result<(), AllocError>
         requires { jobs_at self.old.tenants tenant < 2 ^ 63 }
         ensures found { OnOk result

@@ -12,7 +12,7 @@ ghost use Rattle.spec_hall.specs.Own as spec;
 ghost use Rattle.spec_hall.specs.Own.{adds, adds_volume, is_key, own, own_step, volume_step};
 
 use crate::content::Content;
-use mal_base::{ClauseList, Name};
+use mal_base::{ClauseList, Key, Name};
 use mal_history::{Event, Share};
 use mal_parcel::{OwnEvent, Owned};
 use mal_revision::{Revision, RevisionFault};
@@ -20,23 +20,14 @@ use std::alloc::{AllocError, Global};
 use std::marker::Model;
 use std::sync::Arc;
 
-/// A job by its names.
-#[derive(Clone, Copy)]
-pub struct JobKey {
-    pub tenant: Name,
-    pub job: Name,
+/// Whether these are the names of a key.
+fn is_key(key: &Key, tenant: &Name, job: &Name) -> bool
+    ensures { result ≡ is_key key.now (keyed tenant.now job.now) }
+{
+    key.tenant == *tenant && key.job == *job
 }
 
-impl JobKey {
-    /// Whether these are the job's names.
-    fn is(&self, tenant: &Name, job: &Name) -> bool
-        ensures { result ≡ is_key (keyed self.now.tenant self.now.job) (keyed tenant.now job.now) }
-    {
-        self.tenant == *tenant && self.job == *job
-    }
-}
-
-/// What was told of a job so far: its own events. The type keeps the job's volume behind them.
+/// What was told of a job so far: its own events. The type keeps the job's volume after them.
 #[derive(Drop)]
 struct Telling {
     own: Owned,
@@ -73,7 +64,7 @@ impl Telling {
         self.own
     }
 
-    /// Puts an event behind the others, where it is the job's.
+    /// Puts an event after the others, where it is the job's.
     fn put(&mut self, mine: bool, event: OwnEvent) -> Result<(), AllocError>
         ensures { OnOk result (self.new ≡ adds mine self.old (own_of event)) }
     {
@@ -86,7 +77,7 @@ impl Telling {
         Ok(())
     }
 
-    /// Puts this volume behind the other events, where it differs from the one before.
+    /// Puts this volume after the other events, where it differs from the one before.
     fn put_volume(&mut self, volume: u32) -> Result<(), AllocError>
         ensures { OnOk result (self.new ≡ adds_volume volume self.old) }
     {
@@ -98,7 +89,7 @@ impl Telling {
         Ok(())
     }
 
-    /// Puts what stands at a Revise behind the other events, where it is the job's.
+    /// Puts what stands at a Revise after the other events, where it is the job's.
     fn revise(
         &mut self,
         alloc: Global,
@@ -146,12 +137,12 @@ impl Telling {
     fn step(
         &mut self,
         alloc: Global,
-        key: &JobKey,
+        key: &Key,
         event: &Event,
         content: Option<&Content>,
     ) -> Result<(), AllocError>
         ensures { OnOk result
-            (self.new ≡ own_step (keyed key.now.tenant key.now.job) self.old
+            (self.new ≡ own_step key.now self.old
             (full event.now (option_copied content.entry))) }
     {
         match event {
@@ -159,46 +150,49 @@ impl Telling {
                 tenant: t,
                 job: j,
                 ..
-            } => self.revise(alloc, key.is(t, j), content),
-            Event::Arrive { tenant: t, job: j } => self.arrive(alloc, key.is(t, j), content),
+            } => self.revise(alloc, is_key(key, t, j), content),
+            Event::Arrive { tenant: t, job: j } => self.arrive(alloc, is_key(key, t, j), content),
             _ => self.step_bare(key, event),
         }
     }
 
     /// Tells what an event at which nothing stands tells of the job.
-    fn step_bare(&mut self, key: &JobKey, event: &Event) -> Result<(), AllocError>
+    fn step_bare(&mut self, key: &Key, event: &Event) -> Result<(), AllocError>
         requires { is_bare event.now ≡ true }
         ensures { OnOk result
-            (self.new ≡ own_step (keyed key.now.tenant key.now.job) self.old (full event.now None)) }
+            (self.new ≡ own_step key.now self.old (full event.now None)) }
     {
         match event {
             Event::Open {
                 tenant: t,
                 job: j,
                 ask,
-            } => self.put(key.is(t, j), OwnEvent::Opened(*ask)),
+            } => self.put(is_key(key, t, j), OwnEvent::Opened(*ask)),
             Event::Reask {
                 tenant: t,
                 job: j,
                 weight,
-            } => self.put(key.is(t, j), OwnEvent::Reasked(*weight)),
-            Event::Close { tenant: t, job: j } => self.put(key.is(t, j), OwnEvent::Closed),
+            } => self.put(is_key(key, t, j), OwnEvent::Reasked(*weight)),
+            Event::Close { tenant: t, job: j } => self.put(is_key(key, t, j), OwnEvent::Closed),
             Event::Balance { volumes } => self.put_volume(volume_in(key, volumes.as_slice())),
             Event::Start {
                 tenant: t,
                 job: j,
                 index,
                 ..
-            } => self.put(key.is(t, j), OwnEvent::Started(*index)),
+            } => self.put(is_key(key, t, j), OwnEvent::Started(*index)),
             Event::Finish {
                 tenant: t,
                 job: j,
                 index,
                 outcome,
                 ..
-            } => self.put(key.is(t, j), OwnEvent::Finished(*index, *outcome)),
-            Event::Exchange { tenant: t, job: j } => self.put(key.is(t, j), OwnEvent::Exchanged),
-            Event::Leave { tenant: t, job: j } => self.leave(key.is(t, j)),
+            } => self.put(is_key(key, t, j), OwnEvent::Finished(*index, *outcome)),
+            Event::Exchange { tenant: t, job: j } => self.put(
+                is_key(key, t, j),
+                OwnEvent::Exchanged,
+            ),
+            Event::Leave { tenant: t, job: j } => self.leave(is_key(key, t, j)),
             _ => Ok(()),
         }
     }
@@ -207,13 +201,13 @@ impl Telling {
 /// The own events of a job: of each of these events, with what stands at it, what it tells of the job.
 pub fn own_among(
     alloc: Global,
-    key: &JobKey,
+    key: &Key,
     events: &[Event],
     contents: &[Option<Box<Content>>],
 ) -> Result<Owned, AllocError>
     requires { length contents.now ≡ length events.now }
     ensures { IfOk result
-        (λ o. o ≡ own (keyed key.now.tenant key.now.job) (filled events.now (unboxed contents.now))) }
+        (λ o. o ≡ own key.now (filled events.now (unboxed contents.now))) }
 {
     let mut told = Telling::new(alloc);
     for (at, event) in events.iter().enumerate() {
@@ -269,18 +263,18 @@ fn brought_at(alloc: Global, content: Option<&Content>) -> Result<Owned, AllocEr
 }
 
 /// The volume that a balancing gives a job, 0 where it is not listed.
-fn volume_in(key: &JobKey, volumes: &[Arc<Share>]) -> u32
-    ensures { result ≡ spec.volume_in (keyed key.now.tenant key.now.job) (shared volumes.now) }
+fn volume_in(key: &Key, volumes: &[Arc<Share>]) -> u32
+    ensures { result ≡ spec.volume_in key.now (shared volumes.now) }
 {
     for share in volumes {
-        if key.is(&share.tenant, &share.job) {
+        if is_key(key, &share.tenant, &share.job) {
             return share.volume;
         }
     }
     0
 }
 
-/// The volume behind own events, 0 at first.
+/// The volume after own events, 0 at first.
 fn volume_after(events: &[OwnEvent]) -> u32
     ensures { result ≡ spec.volume_after (owned events.now) }
 {
@@ -291,7 +285,7 @@ fn volume_after(events: &[OwnEvent]) -> u32
     volume
 }
 
-/// The volume behind an own event.
+/// The volume after an own event.
 fn volume_behind(volume: u32, event: &OwnEvent) -> u32
     ensures { result ≡ volume_step volume (own_of event.now) }
 {

@@ -1,4 +1,4 @@
--- Small revisions have room one behind the other.
+-- Small revisions have room one after the other.
 use Rattle.std.proofs.Common.{◌≤◌, List, [], ◌∷◌, length, arith}
 use Rattle.mal_base.specs.Asks.{Terms}
 use Rattle.mal_base.specs.Formulas.{literals_of}

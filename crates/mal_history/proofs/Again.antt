@@ -4,9 +4,13 @@ use Rattle.std.specs.Fmt.{digits}
 use Rattle.std.specs.List.{AllByRecursion, list_any}
 use Rattle.std.proofs.lemmas.Bool.Decides.{nat_tests}
 use Rattle.std.proofs.lemmas.List.Concat.{flat_map-cons}
-use Rattle.spec_text.specs.Asks.{profile_words}
+use Rattle.mal_base.specs.Limits.{limits}
+use Rattle.mal_base.specs.Profiles.{number, last_profile}
+use Rattle.mal_base.specs.declared.profile.Profile.{Profile}
+use Rattle.spec_text.specs.Asks.{first_profile, is_first, profile_words}
 use Rattle.spec_text.specs.Lines.{AreRows}
 use Rattle.spec_text.specs.Numbers.{decimal_word}
+use Rattle.spec_text.proofs.Asked.{first-is, number-bound}
 use Rattle.spec_text.proofs.Names.{name-clean}
 use Rattle.spec_text.proofs.Numerals.{numbers_read_again}
 use Rattle.spec_dimacs.specs.Reading.{◌>>=◌}
@@ -22,9 +26,10 @@ use Rattle.mal_history.specs.Grammar.{Says, SayProfile, SayShares, SaysVersion, 
 use Rattle.mal_history.specs.Formed.{IsVolume, IsSeat, IsEvent, IsHistory, lines_from}
 use Rattle.mal_history.specs.Laws.{WrittenIsRead}
 use Rattle.mal_history.proofs.Differ.{event-rows, header-row}
-use Rattle.mal_history.proofs.Words.{header-read}
+use Rattle.mal_history.proofs.Words.{header-read, other-is}
 use Rattle.mal_history.proofs.Spelled.{spelled-read}
 use Rattle.mal_history.proofs.Rows.{one-more}
+use Rattle.mal_history.specs.Sizes.{most_workers, last_node}
 
 -- an event in form can be written
 shares-writable : (shares : List Share) → AllByRecursion IsVolume shares → AllByRecursion IsShare shares
@@ -32,8 +37,8 @@ shares-writable [] h = tt
 shares-writable (s ∷ ss) h =
     (record { tenant = name-clean s.tenant h.0.names.0; job = name-clean s.job h.0.names.1; volume = omega (arith, h.0.bound) }, shares-writable ss h.1)
 
-writable : (workers : ℕ) (e : Event) → workers ≤ 64 → IsEvent workers e → IsWritable e
-writable workers (Open tenant job ask) low h = (name-clean tenant h.0.0, name-clean job h.0.1, omega (arith, h.1.priority_bound), omega (arith, h.1.demand_bound), omega (arith, h.1.slices_bound), omega (arith, h.1.profile_bound))
+writable : (workers : ℕ) (e : Event) → workers ≤ most_workers → IsEvent workers e → IsWritable e
+writable workers (Open tenant job ask) low h = (name-clean tenant h.0.0, name-clean job h.0.1, omega (arith, h.1.priority_bound), omega (arith, h.1.demand_bound), omega (arith, h.1.slices_bound))
 writable workers (Revise tenant job number) low h = (name-clean tenant h.0.0, name-clean job h.0.1, omega (arith, h.2))
 writable workers (Reask tenant job weight) low h = (name-clean tenant h.0.0, name-clean job h.0.1, omega (arith, h.1.priority_bound), omega (arith, h.1.demand_bound))
 writable workers (Close tenant job) low h = (name-clean tenant h.0, name-clean job h.1)
@@ -44,7 +49,7 @@ writable workers (Exchange tenant job) low h = (name-clean tenant h.0, name-clea
 writable workers (Leave tenant job) low h = absurd h
 writable workers (Arrive tenant job) low h = absurd h
 
-all-writable : (workers : ℕ) (events : List Event) → workers ≤ 64 → AllByRecursion (IsEvent workers) events → AllByRecursion IsWritable events
+all-writable : (workers : ℕ) (events : List Event) → workers ≤ most_workers → AllByRecursion (IsEvent workers) events → AllByRecursion IsWritable events
 all-writable workers [] low h = tt
 all-writable workers (e ∷ events) low h = (writable workers e low h.0, all-writable workers events low h.1)
 
@@ -55,19 +60,19 @@ says low high n h k wide = (numbers_read_again (pos n) high k wide, h, k)
 shares-say : (shares : List Share) → AllByRecursion IsVolume shares → SayShares (flat_map share_words shares) shares
 shares-say [] h = refl
 shares-say (s ∷ ss) h =
-    (flat_map share_words ss, record { volume = decimal_word s.volume; row = flat_map-cons share_words s ss; names = h.0.names; says_volume = says 0 64 s.volume (omega arith) h.0.bound (omega arith) }, shares-say ss h.1)
+    (flat_map share_words ss, record { volume = decimal_word s.volume; row = flat_map-cons share_words s ss; names = h.0.names; says_volume = says 0 limits.demand s.volume (omega arith) h.0.bound (omega arith) }, shares-say ss h.1)
 
-profile-says : (n : ℕ) → 1 ≤ n → n ≤ 2 → SayProfile (profile_words n) n
-profile-says n some low = by_test (n == 1) refl
+profile-says : (p : Profile) → SayProfile (profile_words p) p
+profile-says p = by_test (is_first p) refl
   where
-    by_test : (b : Bool) → (n == 1) ≡ b → SayProfile (cond b [] (decimal_word n ∷ [])) n
-    by_test true e = grind (arith, nat_tests)
-    by_test false e = says 2 2 n (grind (arith, nat_tests)) low (omega arith)
+    by_test : (b : Bool) → is_first p ≡ b → SayProfile (cond b [] (decimal_word (number p) ∷ [])) p
+    by_test true e = first-is p e
+    by_test false e = says (first_profile + 1) last_profile (number p) (other-is p e) (number-bound p) (omega arith)
 
-seat-says : (workers index worker : ℕ) → workers ≤ 64 → IsSeat workers index worker → Says 0 63 (decimal_word index) index × Says 1 workers (decimal_word worker) worker
-seat-says workers index worker low h = (says 0 63 index (omega arith) h.index_bound (omega arith), says 1 workers worker h.some_worker h.worker_bound (omega (arith, low)))
+seat-says : (workers index worker : ℕ) → workers ≤ most_workers → IsSeat workers index worker → Says 0 last_node (decimal_word index) index × Says 1 workers (decimal_word worker) worker
+seat-says workers index worker low h = (says 0 last_node index (omega arith) h.index_bound (omega arith), says 1 workers worker h.some_worker h.worker_bound (omega (arith, low)))
 
-spelled : (version workers : ℕ) (e : Event) → workers ≤ 64 → (is_of_version_2 e ≡ true → version ≡ 2) → IsEvent workers e → SpellsEvent version workers (event_words e) e
+spelled : (version workers : ℕ) (e : Event) → workers ≤ most_workers → (is_of_version_2 e ≡ true → version ≡ 2) → IsEvent workers e → SpellsEvent version workers (event_words e) e
 spelled version workers (Open tenant job ask) low told h = record {
   priority = decimal_word ask.priority;
   demand = decimal_word ask.demand;
@@ -75,20 +80,20 @@ spelled version workers (Open tenant job ask) low told h = record {
   profile = profile_words ask.profile;
   row = refl;
   names = h.0;
-  says_priority = says 1 1000 ask.priority h.1.some_priority h.1.priority_bound (omega arith);
-  says_demand = says 1 64 ask.demand h.1.some_demand h.1.demand_bound (omega arith);
-  says_slices = says 1 4096 ask.slices h.1.some_slices h.1.slices_bound (omega arith);
-  say_profile = profile-says ask.profile h.1.some_profile h.1.profile_bound;
+  says_priority = says 1 limits.priority ask.priority h.1.some_priority h.1.priority_bound (omega arith);
+  says_demand = says 1 limits.demand ask.demand h.1.some_demand h.1.demand_bound (omega arith);
+  says_slices = says 1 limits.slices ask.slices h.1.some_slices h.1.slices_bound (omega arith);
+  say_profile = profile-says ask.profile;
 }
-spelled version workers (Revise tenant job number) low told h = record { word = decimal_word number; row = refl; names = h.0; says_number = says 1 256 number h.1 h.2 (omega arith) }
+spelled version workers (Revise tenant job number) low told h = record { word = decimal_word number; row = refl; names = h.0; says_number = says 1 limits.revisions number h.1 h.2 (omega arith) }
 spelled version workers (Reask tenant job weight) low told h = record {
   priority = decimal_word weight.priority;
   demand = decimal_word weight.demand;
   row = refl;
   version_is = told refl;
   names = h.0;
-  says_priority = says 1 1000 weight.priority h.1.some_priority h.1.priority_bound (omega arith);
-  says_demand = says 1 64 weight.demand h.1.some_demand h.1.demand_bound (omega arith);
+  says_priority = says 1 limits.priority weight.priority h.1.some_priority h.1.priority_bound (omega arith);
+  says_demand = says 1 limits.demand weight.demand h.1.some_demand h.1.demand_bound (omega arith);
 }
 spelled version workers (Close tenant job) low told h = (refl, h)
 spelled version workers (Balance volumes) low told h = record { behind = flat_map share_words volumes; row = refl; says_volumes = shares-say volumes h }
@@ -111,7 +116,7 @@ or-right : (a b : Bool) → b ≡ true → (a || b) ≡ true
 or-right true b e = refl
 or-right false b e = e
 
-events-again : (max version workers line count : ℕ) (events : List Event) → workers ≤ 64 → (list_any is_of_version_2 events ≡ true → version ≡ 2) → AllByRecursion (IsEvent workers) events → count + length events ≤ max
+events-again : (max version workers line count : ℕ) (events : List Event) → workers ≤ most_workers → (list_any is_of_version_2 events ≡ true → version ≡ 2) → AllByRecursion (IsEvent workers) events → count + length events ≤ max
     → events_from max version workers line count (map event_words events) ≡ Ok (record { workers = workers; events = events; lines = lines_from (suc line) events })
 events-again max version workers line count [] low told h few = refl
 events-again max version workers line count (e ∷ events) low told h few =
@@ -164,7 +169,7 @@ version-says workers events h = subst (λ (v : ℕ). SaysVersion (decimal_word v
 header-again : (workers : ℕ) (events : List Event) → IsHistory workers events → header_of (header_words (version_of events) workers) ≡ Ok (record { version = version_of events; workers = workers })
 header-again workers events h =
     header-read (header_words (version_of events) workers) (version_of events) workers
-    (record { version_word = decimal_word (version_of events); workers_word = decimal_word workers; row = refl; says_version = version-says workers events h.formed; says_workers = says 1 64 workers h.some h.bound (omega arith) })
+    (record { version_word = decimal_word (version_of events); workers_word = decimal_word workers; row = refl; says_version = version-says workers events h.formed; says_workers = says 1 most_workers workers h.some h.bound (omega arith) })
 
 pub written-read : WrittenIsRead
 unfolding history_text

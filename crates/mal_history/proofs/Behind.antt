@@ -1,5 +1,6 @@
--- What is left to read, behind what was read before.
+-- What is left to read, after what was read before.
 use Rattle.std.proofs.Common.{◌≡◌, ℕ, suc, Bool, true, false, cond, ◌&&◌, List, [], ◌∷◌, ◌++◌, ◌+◌, map, length, Result, Ok, Err, refl, sym, ap, ap₂, subst, ◌∙◌, append_assoc, length-append, arith}
+use Rattle.mal_base.specs.Limits.{limits}
 use Rattle.mal_base.specs.Names.{is_name}
 use Rattle.spec_text.specs.Inputs.{lines_of, words_of}
 use Rattle.spec_dimacs.specs.Rows.{rows_of}
@@ -11,7 +12,7 @@ use Rattle.mal_history.specs.Reading.{Read, Fault, in_range, are_shares, shares_
 use Rattle.mal_history.specs.Reading.Fault.{BadLine, BadNumber}
 use Rattle.mal_history.specs.Written.{Written}
 
--- the balancing of volumes and of words behind them, where the volumes before were in range or not
+-- the balancing of volumes and of words after them, where the volumes before were in range or not
 abbrev pub balance_behind : List Share → Bool → List (List ℕ) → Result Event Fault
 balance_behind front true words = cond (are_shares words) (shares_of words >>= λ shares. Ok (Balance (front ++ shares))) (Err BadLine)
 balance_behind front false words = cond (are_shares words) (Err BadNumber) (Err BadLine)
@@ -33,8 +34,8 @@ both-true false b c e = absurd (cc)
 are-shares : (tenant job volume : List ℕ) (words : List (List ℕ)) → (is_name tenant && is_name job) ≡ true → are_shares (tenant ∷ job ∷ volume ∷ words) ≡ are_shares words
 are-shares tenant job volume words h = both-true (is_name tenant) (is_name job) (are_shares words) h
 
--- one that is in range stands behind those before
-share-in : (front : List Share) (ok : Bool) (tenant job volume : List ℕ) (words : List (List ℕ)) (v : ℕ) → (is_name tenant && is_name job) ≡ true → in_range 0 64 volume ≡ Ok v
+-- one that is in range stands after those before
+share-in : (front : List Share) (ok : Bool) (tenant job volume : List ℕ) (words : List (List ℕ)) (v : ℕ) → (is_name tenant && is_name job) ≡ true → in_range 0 limits.demand volume ≡ Ok v
     → balance_behind (front ++ share-of tenant job v ∷ []) ok words ≡ balance_behind front ok (tenant ∷ job ∷ volume ∷ words)
 unfolding share-of
 share-in front false tenant job volume words v h e = ap (λ (b : Bool). cond b (Err BadNumber) (Err BadLine)) (sym (are-shares tenant job volume words h))
@@ -48,7 +49,7 @@ share-in front true tenant job volume words v h e =
     moved (Ok shares) = ap (λ (ss : List Share). Ok (Balance ss)) (sym (append_assoc front (share-of tenant job v ∷ []) shares))
 
 -- one that is not makes the line wrong
-share-out : (front : List Share) (ok : Bool) (tenant job volume : List ℕ) (words : List (List ℕ)) → (is_name tenant && is_name job) ≡ true → in_range 0 64 volume ≡ Err BadNumber
+share-out : (front : List Share) (ok : Bool) (tenant job volume : List ℕ) (words : List (List ℕ)) → (is_name tenant && is_name job) ≡ true → in_range 0 limits.demand volume ≡ Err BadNumber
     → balance_behind front false words ≡ balance_behind front ok (tenant ∷ job ∷ volume ∷ words)
 share-out front false tenant job volume words h e = ap (λ (b : Bool). cond b (Err BadNumber) (Err BadLine)) (sym (are-shares tenant job volume words h))
 share-out front true tenant job volume words h e =
@@ -60,7 +61,7 @@ shared : (words words1 words2 : List (List ℕ)) (tenant job volume : List ℕ) 
 shared words words1 words2 tenant job volume e f = e ∙ ap (λ (ws : List (List ℕ)). tenant ∷ ws) f
 
 pub next-in : (front new : List Share) (ok : Bool) (words words1 words2 : List (List ℕ)) (tenant job t j volume : List ℕ) (v : ℕ) (read : Result Event Fault)
-    → words ≡ tenant ∷ words1 → words1 ≡ job ∷ volume ∷ words2 → (t ≡ tenant) × (j ≡ job) × ((is_name tenant && is_name job) ≡ true) → in_range 0 64 volume ≡ Ok v
+    → words ≡ tenant ∷ words1 → words1 ≡ job ∷ volume ∷ words2 → (t ≡ tenant) × (j ≡ job) × ((is_name tenant && is_name job) ≡ true) → in_range 0 limits.demand volume ≡ Ok v
     → new ≡ front ++ record { tenant = t; job = j; volume = v } ∷ [] → balance_behind front ok words ≡ read → balance_behind new ok words2 ≡ read
 unfolding share-of
 next-in front new ok words words1 words2 tenant job t j volume v read e f names r n h =
@@ -70,14 +71,14 @@ next-in front new ok words words1 words2 tenant job t j volume v read e f names 
     ∙ h
 
 pub next-out : (front : List Share) (ok : Bool) (words words1 words2 : List (List ℕ)) (tenant job t j volume : List ℕ) (read : Result Event Fault)
-    → words ≡ tenant ∷ words1 → words1 ≡ job ∷ volume ∷ words2 → (t ≡ tenant) × (j ≡ job) × ((is_name tenant && is_name job) ≡ true) → in_range 0 64 volume ≡ Err BadNumber
+    → words ≡ tenant ∷ words1 → words1 ≡ job ∷ volume ∷ words2 → (t ≡ tenant) × (j ≡ job) × ((is_name tenant && is_name job) ≡ true) → in_range 0 limits.demand volume ≡ Err BadNumber
     → balance_behind front ok words ≡ read → balance_behind front false words2 ≡ read
 next-out front ok words words1 words2 tenant job t j volume read e f names r h =
     share-out front ok tenant job volume words2 names.2 r
     ∙ ap (balance_behind front ok) (sym (shared words words1 words2 tenant job volume e f))
     ∙ h
 
--- one more event and its line stand behind those before
+-- one more event and its line stand after those before
 more-behind : (events : List Event) (lines : List ℕ) (e : Event) (line : ℕ) (r : Result Read (ℕ × Fault)) → behind events lines (r >>= λ h. Ok (with_event line e h)) ≡ behind (events ++ e ∷ []) (lines ++ line ∷ []) r
 more-behind events lines e line (Err fault) = refl
 more-behind events lines e line (Ok h) = ap₂ (λ (es : List Event) (ls : List ℕ). Ok (record { workers = h.workers; events = es; lines = ls })) (sym (append_assoc events (e ∷ []) h.events)) (sym (append_assoc lines (line ∷ []) h.lines))
@@ -92,7 +93,7 @@ next-read max version workers line events now lines numbers word words rows e re
     ∙ sym (more-behind events lines e (suc line) (events_from max version workers (suc line) (suc (length events)) rows))
     ∙ ap (λ (r : Result Event (ℕ × Fault)). behind events lines (r >>= λ x. events_from max version workers (suc line) (suc (length events)) rows >>= λ h. Ok (with_event (suc line) x h))) (sym read)
 
--- an event was put behind those before
+-- an event was put after those before
 pub record Grown (old new : Written) (max version workers line : ℕ) (words : List (List ℕ)) : Type 0 where
   pub event : Event
   pub read : on_line line (next_event max version workers (length old.events) words) ≡ Ok event

@@ -1,15 +1,20 @@
 -- The words of an event tell it, so a text tells its history.
-use Rattle.std.proofs.Common.{◌≡◌, ◌==◌, ℕ, Bool, true, false, cond, List, [], ◌∷◌, ◌++◌, map, flat_map, length, codes, refl, sym, ap, ◌∙◌, subst, arith}
+use Rattle.std.proofs.Common.{◌≡◌, ◌==◌, ℕ, Bool, true, false, cond, List, [], ◌∷◌, ◌++◌, map, flat_map, length, codes, pos, refl, sym, ap, ◌∙◌, subst, arith}
 use Rattle.std.specs.List.{AllByRecursion}
 use Rattle.std.proofs.lemmas.Bool.Decides.{nat_tests}
 use Rattle.std.proofs.lemmas.List.Concat.{flat_map-cons}
 use Rattle.mal_base.specs.Asks.{Terms, Weighed}
 use Rattle.mal_base.specs.declared.verdict.Outcome.{Outcome}
 use Rattle.mal_base.specs.declared.verdict.Outcome.TheVariants.{Ran, Starved, Lost}
-use Rattle.spec_text.specs.Asks.{profile_words}
+use Rattle.mal_base.specs.Profiles.{number}
+use Rattle.mal_base.specs.declared.profile.Profile.{Profile}
+use Rattle.mal_base.specs.declared.profile.Profile.TheVariants.{Plain, Lean}
+use Rattle.spec_text.specs.Asks.{is_first, profile_words}
+use Rattle.spec_text.specs.Numbers.NumberWord.{Number}
 use Rattle.spec_text.specs.Lines.{IsClean, AreClean, IsRow, AreRows}
 use Rattle.spec_text.specs.Numbers.{decimal_word}
 use Rattle.spec_text.proofs.Again.{texts_differ}
+use Rattle.spec_text.proofs.Asked.{first-is, number-bound, same-profile}
 use Rattle.spec_text.proofs.Clean.{decimals_are_clean, decimals_differ}
 use Rattle.spec_text.proofs.Names.{profile-clean}
 use Rattle.mal_history.specs.declared.event.Event.{Event}
@@ -69,14 +74,19 @@ outcomes-differ Lost Lost e = refl
 outcomes-differ a b e = let same : length (outcome_word a) ≡ length (outcome_word b) = ap (λ (xs : List ℕ). length xs) e in absurd (omega (arith, same))
 
 -- a profile is told by its words
-profiles-differ : (m n : ℕ) → IsNumber m → IsNumber n → profile_words m ≡ profile_words n → m ≡ n
-profiles-differ m n x y e = by_tests (m == 1) (n == 1) refl refl e
+profiles-differ : (p q : Profile) → profile_words p ≡ profile_words q → p ≡ q
+profiles-differ p q e = by_tests (is_first p) (is_first q) refl refl e
   where
-    by_tests : (a b : Bool) → (m == 1) ≡ a → (n == 1) ≡ b → cond a [] (decimal_word m ∷ []) ≡ cond b [] (decimal_word n ∷ []) → m ≡ n
-    by_tests true true p q e = grind (arith, nat_tests)
-    by_tests true false p q e = absurd (cc)
-    by_tests false true p q e = absurd (cc)
-    by_tests false false p q e = decimals_differ m n x y (head-same (decimal_word m) (decimal_word n) [] [] e)
+    wide : (r : Profile) → IsNumber (number r)
+    wide r = omega (arith, number-bound r)
+
+    by_tests : (a b : Bool) → is_first p ≡ a → is_first q ≡ b → cond a [] (decimal_word (number p) ∷ []) ≡ cond b [] (decimal_word (number q) ∷ []) → p ≡ q
+    by_tests true true x y e = first-is p x ∙ sym (first-is q y)
+    by_tests true false x y e = absurd (cc)
+    by_tests false true x y e = absurd (cc)
+    by_tests false false x y e =
+        let same : number p ≡ number q = decimals_differ (number p) (number q) (wide p) (wide q) (head-same (decimal_word (number p)) (decimal_word (number q)) [] [] e) in
+        same-profile p q (ap (λ (n : ℕ). Number (pos n)) same)
 
 -- volumes are told by their words
 share-same : (s t : Share) → s.tenant ≡ t.tenant → s.job ≡ t.job → s.volume ≡ t.volume → s ≡ t
@@ -134,21 +144,21 @@ letter-first (Arrive t j) = refl
 terms-same : (a b : Terms) → a.priority ≡ b.priority → a.demand ≡ b.demand → a.slices ≡ b.slices → a.profile ≡ b.profile → a ≡ b
 terms-same a b x y z w =
     ap (λ (n : ℕ). terms n a.demand a.slices a.profile) x
-    ∙ (ap (λ (n : ℕ). terms b.priority n a.slices a.profile) y ∙ (ap (λ (n : ℕ). terms b.priority b.demand n a.profile) z ∙ ap (λ (n : ℕ). terms b.priority b.demand b.slices n) w))
+    ∙ (ap (λ (n : ℕ). terms b.priority n a.slices a.profile) y ∙ (ap (λ (n : ℕ). terms b.priority b.demand n a.profile) z ∙ ap (λ (p : Profile). terms b.priority b.demand b.slices p) w))
   where
-    terms : ℕ → ℕ → ℕ → ℕ → Terms
+    terms : ℕ → ℕ → ℕ → Profile → Terms
     terms priority demand slices profile = record { priority = priority; demand = demand; slices = slices; profile = profile }
 
 -- two events of one kind
-open-differ : (t u j k : List ℕ) (a b : Terms) → IsNumber a.priority → IsNumber b.priority → IsNumber a.demand → IsNumber b.demand → IsNumber a.slices → IsNumber b.slices → IsNumber a.profile → IsNumber b.profile → event_words (Open t j a) ≡ event_words (Open u k b) → Open t j a ≡ Open u k b
-open-differ t u j k a b p q d f s g m n e =
+open-differ : (t u j k : List ℕ) (a b : Terms) → IsNumber a.priority → IsNumber b.priority → IsNumber a.demand → IsNumber b.demand → IsNumber a.slices → IsNumber b.slices → event_words (Open t j a) ≡ event_words (Open u k b) → Open t j a ≡ Open u k b
+open-differ t u j k a b p q d f s g e =
     let tenant : t ≡ u = cc in
     let job : j ≡ k = cc in
     let priority : decimal_word a.priority ≡ decimal_word b.priority = cc in
     let demand : decimal_word a.demand ≡ decimal_word b.demand = cc in
     let slices : decimal_word a.slices ≡ decimal_word b.slices = cc in
     let profile : profile_words a.profile ≡ profile_words b.profile = cc in
-    let ask : a ≡ b = terms-same a b (decimals_differ a.priority b.priority p q priority) (decimals_differ a.demand b.demand d f demand) (decimals_differ a.slices b.slices s g slices) (profiles-differ a.profile b.profile m n profile) in
+    let ask : a ≡ b = terms-same a b (decimals_differ a.priority b.priority p q priority) (decimals_differ a.demand b.demand d f demand) (decimals_differ a.slices b.slices s g slices) (profiles-differ a.profile b.profile profile) in
     rw (tenant, job, ask) refl
 
 revise-differ : (t u j k : List ℕ) (m n : ℕ) → IsNumber m → IsNumber n → event_words (Revise t j m) ≡ event_words (Revise u k n) → Revise t j m ≡ Revise u k n
@@ -214,7 +224,7 @@ finish-differ t u j k m n v w o p a b c d e =
 -- an event is told by its words
 events-differ : (e f : Event) → IsWritable e → IsWritable f → letter_of e ≡ letter_of f → event_words e ≡ event_words f → e ≡ f
 unfolding letter_of
-events-differ (Open t j a) (Open u k b) h i same e = open-differ t u j k a b h.2 i.2 h.3 i.3 h.4 i.4 h.5 i.5 e
+events-differ (Open t j a) (Open u k b) h i same e = open-differ t u j k a b h.2 i.2 h.3 i.3 h.4 i.4 e
 events-differ (Revise t j m) (Revise u k n) h i same e = revise-differ t u j k m n h.2 i.2 e
 events-differ (Reask t j v) (Reask u k w) h i same e = reask-differ t u j k v w h.2 i.2 h.3 i.3 e
 events-differ (Close t j) (Close u k) h i same e = close-differ t u j k e
@@ -252,18 +262,18 @@ word-clean = ((omega arith, (omega arith, tt)), (omega arith, (omega arith, tt))
 start-writable : (index worker : ℕ) (o : Outcome) → IsNumber index → IsNumber worker → AllByRecursion IsWritable (one_start index worker o)
 start-writable index worker o i w = ((word-clean.0, word-clean.1, i, w), ((word-clean.0, word-clean.1, i, w), tt))
 
-open-writable : (profile : ℕ) → IsNumber profile → AllByRecursion IsWritable (one_open profile)
-open-writable profile n = ((word-clean.0, word-clean.1, omega arith, omega arith, omega arith, n), tt)
+open-writable : (profile : Profile) → AllByRecursion IsWritable (one_open profile)
+open-writable profile = ((word-clean.0, word-clean.1, omega arith, omega arith, omega arith), tt)
 
 reask-writable : (priority : ℕ) → IsNumber priority → AllByRecursion IsWritable (one_reask priority)
 reask-writable priority n = ((word-clean.0, word-clean.1, n, omega arith), tt)
 
 profile-of : List Event → ℕ
 profile-of [] = 0
-profile-of (Open t j ask ∷ es) = ask.profile
+profile-of (Open t j ask ∷ es) = number ask.profile
 profile-of (e ∷ es) = 0
 
-other-profile : profile-of (one_open 1) ≡ profile-of (one_open 2) → ⊥
+other-profile : profile-of (one_open Plain) ≡ profile-of (one_open Lean) → ⊥
 unfolding profile-of
 other-profile e = let same : 1 ≡ 2 = e in absurd (omega (arith, same))
 
@@ -299,7 +309,7 @@ other-texts = record {
   workers = λ e. let same : 2 ≡ 3 = (histories-differ 2 3 (one_start 0 1 Ran) (one_start 0 1 Ran) (omega arith) (omega arith) (start-writable 0 1 Ran (omega arith) (omega arith)) (start-writable 0 1 Ran (omega arith) (omega arith)) e).workers_are in absurd (omega (arith, same));
   exchanged = λ e. other-index (ap index-of (histories-differ 2 2 (one_start 2 1 Ran) (one_start 1 2 Ran) (omega arith) (omega arith) (start-writable 2 1 Ran (omega arith) (omega arith)) (start-writable 1 2 Ran (omega arith) (omega arith)) e).events);
   less = λ e. let same : one_start 0 1 Ran ≡ [] = (histories-differ 2 2 (one_start 0 1 Ran) [] (omega arith) (omega arith) (start-writable 0 1 Ran (omega arith) (omega arith)) tt e).events in absurd (cc);
-  profile = λ e. other-profile (ap profile-of (histories-differ 2 2 (one_open 1) (one_open 2) (omega arith) (omega arith) (open-writable 1 (omega arith)) (open-writable 2 (omega arith)) e).events);
+  profile = λ e. other-profile (ap profile-of (histories-differ 2 2 (one_open Plain) (one_open Lean) (omega arith) (omega arith) (open-writable Plain) (open-writable Lean) e).events);
   priority = λ e. other-priority (ap priority-of (histories-differ 2 2 (one_reask 1) (one_reask 2) (omega arith) (omega arith) (reask-writable 1 (omega arith)) (reask-writable 2 (omega arith)) e).events);
   move = λ e. let same : one_leave ≡ one_arrival = (histories-differ 2 2 one_leave one_arrival (omega arith) (omega arith) (word-clean, tt) (word-clean, tt) e).events in absurd (cc);
 }

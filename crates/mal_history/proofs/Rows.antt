@@ -16,7 +16,7 @@ use Rattle.mal_history.specs.Laws.{SpelledIsRead, SpelledIsFormed}
 use Rattle.mal_history.proofs.Words.{bind-ok, ok-is, asks-formed, weights-formed, header-read, read-header}
 use Rattle.mal_history.proofs.Spelled.{spelled-read, read-spelled}
 
--- the event of a line behind fewer events than there may be
+-- the event of a line after fewer events than there may be
 next-read : (max version workers count : ℕ) (words : List (List ℕ)) (e : Event) → event_of version workers words ≡ Ok e → count < max → next_event max version workers count words ≡ Ok e
 next-read max version workers count words e h low =
     ap (λ (r : Result Event Fault). r >>= λ x. cond (nat_lt count max) (Ok x) (Err TooLong)) h ∙ ap (λ (b : Bool). cond b (Ok e) (Err TooLong)) (lt-ltb count max low)
@@ -156,7 +156,7 @@ shares-formed words [] h = tt
 shares-formed words (s ∷ ss) h = (record { names = h.1.names; bound = h.1.says_volume.2 }, shares-formed h.0 ss h.2)
 
 event-formed : (version workers : ℕ) (words : List (List ℕ)) (e : Event) → SpellsEvent version workers words e → IsEvent workers e
-event-formed version workers words (Open tenant job ask) h = (h.names, asks-formed h.priority h.demand h.slices h.profile ask h.says_priority h.says_demand h.says_slices h.say_profile)
+event-formed version workers words (Open tenant job ask) h = (h.names, asks-formed h.priority h.demand h.slices ask h.says_priority h.says_demand h.says_slices)
 event-formed version workers words (Revise tenant job number) h = (h.names, h.says_number.1, h.says_number.2)
 event-formed version workers words (Reask tenant job weight) h = (h.names, weights-formed h.priority h.demand weight h.says_priority h.says_demand)
 event-formed version workers words (Close tenant job) h = h.1

@@ -4,9 +4,11 @@ use Rattle.std.specs.Prelude.{bytes_eq}
 use Rattle.std.proofs.lemmas.Bool.{and_parts}
 use Rattle.std.proofs.lemmas.Bool.Decides.{nat_tests}
 use Rattle.std.proofs.lemmas.Slice.Eq.{bytes_eq-Decides}
+use Rattle.mal_base.specs.Limits.{limits}
 use Rattle.mal_base.specs.Asks.{Terms, Weighed}
 use Rattle.mal_base.specs.Names.{is_name}
 use Rattle.mal_base.specs.declared.verdict.Outcome.{Outcome}
+use Rattle.mal_base.specs.declared.profile.Profile.{Profile}
 use Rattle.spec_dimacs.specs.Reading.{◌>>=◌}
 use Rattle.mal_history.specs.declared.event.Event.{Event}
 use Rattle.mal_history.specs.declared.event.Event.TheVariants.{Open, Revise, Reask, Close, Balance, Start, Finish, Exchange, Leave, Arrive}
@@ -17,23 +19,24 @@ use Rattle.mal_history.specs.Reading.Fault.{BadLine}
 use Rattle.mal_history.specs.Grammar.{AreNames, SayProfile, SpellsEvent}
 use Rattle.mal_history.specs.Laws.{SpelledEventIsRead}
 use Rattle.mal_history.proofs.Words.{bind-ok, ok-is, says-read, read-says, names-true, asks-read, read-asks, weights-read, read-weights, profile-read, read-profile, outcome-read, read-outcome, shares-formed, shares-read, read-shares}
+use Rattle.mal_history.specs.Sizes.{last_node}
 
--- behind the names stand the words of the event
+-- after the names stand the words of the event
 named : (version workers : ℕ) (kind tenant job : List ℕ) (words : List (List ℕ)) → AreNames tenant job → named_event version workers kind (tenant ∷ job ∷ words) ≡ event_of_job version workers kind tenant job words
 named version workers kind tenant job words h = ap (λ (b : Bool). cond b (event_of_job version workers kind tenant job words) (Err BadLine)) (names-true tenant job h)
 
-seated : (i w : ℕ) (workers : ℕ) (at by : List ℕ) (f : ℕ → ℕ → Event) → in_range 0 63 at ≡ Ok i → in_range 1 workers by ≡ Ok w → (in_range 0 63 at >>= λ x. in_range 1 workers by >>= λ y. Ok (f x y)) ≡ Ok (f i w)
+seated : (i w : ℕ) (workers : ℕ) (at by : List ℕ) (f : ℕ → ℕ → Event) → in_range 0 last_node at ≡ Ok i → in_range 1 workers by ≡ Ok w → (in_range 0 last_node at >>= λ x. in_range 1 workers by >>= λ y. Ok (f x y)) ≡ Ok (f i w)
 seated i w workers at by f e g =
     ap (λ (r : Result ℕ Fault). r >>= λ x. in_range 1 workers by >>= λ y. Ok (f x y)) e ∙ ap (λ (r : Result ℕ Fault). r >>= λ y. Ok (f i y)) g
 
 pub spelled-read : (version workers : ℕ) (words : List (List ℕ)) (e : Event) → SpellsEvent version workers words e → event_of version workers words ≡ Ok e
 spelled-read version workers words (Open tenant job ask) h =
     ap (event_of version workers) h.row ∙ named version workers (codes "o") tenant job (h.priority ∷ h.demand ∷ h.slices ∷ h.profile) h.names
-    ∙ ap (λ (r : Result ℕ Fault). r >>= λ n. ask_of h.priority h.demand h.slices n >>= λ a. Ok (Open tenant job a)) (profile-read h.profile ask.profile h.say_profile)
+    ∙ ap (λ (r : Result Profile Fault). r >>= λ n. ask_of h.priority h.demand h.slices n >>= λ a. Ok (Open tenant job a)) (profile-read h.profile ask.profile h.say_profile)
     ∙ ap (λ (r : Result Terms Fault). r >>= λ a. Ok (Open tenant job a)) (asks-read h.priority h.demand h.slices ask h.says_priority h.says_demand h.says_slices)
 spelled-read version workers words (Revise tenant job number) h =
     ap (event_of version workers) h.row ∙ named version workers (codes "r") tenant job (h.word ∷ []) h.names
-    ∙ ap (λ (r : Result ℕ Fault). r >>= λ n. Ok (Revise tenant job n)) (says-read 1 256 h.word number h.says_number)
+    ∙ ap (λ (r : Result ℕ Fault). r >>= λ n. Ok (Revise tenant job n)) (says-read 1 limits.revisions h.word number h.says_number)
 spelled-read version workers words (Reask tenant job weight) h =
     ap (event_of version workers) h.row ∙ named version workers (codes "q") tenant job (h.priority ∷ h.demand ∷ []) h.names
     ∙ ap (λ (v : ℕ). event_of_job v workers (codes "q") tenant job (h.priority ∷ h.demand ∷ [])) h.version_is
@@ -45,11 +48,11 @@ spelled-read version workers words (Balance volumes) h =
     ∙ ap (λ (r : Result (List Share) Fault). r >>= λ shares. Ok (Balance shares)) (shares-read h.behind volumes h.says_volumes)
 spelled-read version workers words (Start tenant job index worker) h =
     ap (event_of version workers) h.row ∙ named version workers (codes "s") tenant job (h.at ∷ h.by ∷ []) h.names
-    ∙ seated index worker workers h.at h.by (Start tenant job) (says-read 0 63 h.at index h.says_index) (says-read 1 workers h.by worker h.says_worker)
+    ∙ seated index worker workers h.at h.by (Start tenant job) (says-read 0 last_node h.at index h.says_index) (says-read 1 workers h.by worker h.says_worker)
 spelled-read version workers words (Finish tenant job index worker outcome) h =
     ap (event_of version workers) h.row ∙ named version workers (codes "f") tenant job (h.at ∷ h.by ∷ outcome_word outcome ∷ []) h.names
-    ∙ ap (λ (r : Result Outcome Fault). r >>= λ o. in_range 0 63 h.at >>= λ i. in_range 1 workers h.by >>= λ w. Ok (Finish tenant job i w o)) (outcome-read outcome)
-    ∙ seated index worker workers h.at h.by (λ i w. Finish tenant job i w outcome) (says-read 0 63 h.at index h.says_index) (says-read 1 workers h.by worker h.says_worker)
+    ∙ ap (λ (r : Result Outcome Fault). r >>= λ o. in_range 0 last_node h.at >>= λ i. in_range 1 workers h.by >>= λ w. Ok (Finish tenant job i w o)) (outcome-read outcome)
+    ∙ seated index worker workers h.at h.by (λ i w. Finish tenant job i w outcome) (says-read 0 last_node h.at index h.says_index) (says-read 1 workers h.by worker h.says_worker)
 spelled-read version workers words (Exchange tenant job) h = ap (event_of version workers) h.0 ∙ named version workers (codes "x") tenant job [] h.1
 spelled-read version workers words (Leave tenant job) h = absurd h
 spelled-read version workers words (Arrive tenant job) h = absurd h
@@ -63,7 +66,7 @@ open-spelled version workers tenant job (p ∷ d ∷ s ∷ q) e n h =
     let profile = bind-ok (profile_of q) (λ m. ask_of p d s m >>= λ a. Ok (Open tenant job a)) e h in
     let ask = bind-ok (ask_of p d s profile.0) (λ a. Ok (Open tenant job a)) e profile.2 in
     let says = read-asks p d s profile.0 ask.0 ask.1 in
-    let said : SayProfile q ask.0.profile = subst (λ (m : ℕ). SayProfile q m) says.profile (read-profile q profile.0 profile.1) in
+    let said : SayProfile q ask.0.profile = subst (λ (m : Profile). SayProfile q m) says.own (read-profile q profile.0 profile.1) in
     subst (λ (x : Event). SpellsEvent version workers (codes "o" ∷ tenant ∷ job ∷ p ∷ d ∷ s ∷ q) x) (ok-is (Open tenant job ask.0) e ask.2)
     (record { priority = p; demand = d; slices = s; profile = q; row = refl; names = n; says_priority = says.priority; says_demand = says.demand; says_slices = says.slices; say_profile = said })
 
@@ -71,9 +74,9 @@ revise-spelled : (version workers : ℕ) (tenant job : List ℕ) (words : List (
 revise-spelled version workers tenant job [] e n h = absurd (cc)
 revise-spelled version workers tenant job (w ∷ x ∷ xs) e n h = absurd (cc)
 revise-spelled version workers tenant job (w ∷ []) e n h =
-    let number = bind-ok (in_range 1 256 w) (λ r. Ok (Revise tenant job r)) e h in
+    let number = bind-ok (in_range 1 limits.revisions w) (λ r. Ok (Revise tenant job r)) e h in
     subst (λ (x : Event). SpellsEvent version workers (codes "r" ∷ tenant ∷ job ∷ w ∷ []) x) (ok-is (Revise tenant job number.0) e number.2)
-    (record { word = w; row = refl; names = n; says_number = read-says 1 256 w number.0 number.1 })
+    (record { word = w; row = refl; names = n; says_number = read-says 1 limits.revisions w number.0 number.1 })
 
 reask-spelled : (version workers : ℕ) (tenant job : List ℕ) (words : List (List ℕ)) (e : Event) → version ≡ 2 → AreNames tenant job → reasked tenant job words ≡ Ok e → SpellsEvent version workers (codes "q" ∷ tenant ∷ job ∷ words) e
 reask-spelled version workers tenant job [] e two n h = absurd (cc)
@@ -98,10 +101,10 @@ start-spelled version workers tenant job [] e n h = absurd (cc)
 start-spelled version workers tenant job (a ∷ []) e n h = absurd (cc)
 start-spelled version workers tenant job (a ∷ b ∷ x ∷ xs) e n h = absurd (cc)
 start-spelled version workers tenant job (a ∷ b ∷ []) e n h =
-    let index = bind-ok (in_range 0 63 a) (λ i. in_range 1 workers b >>= λ w. Ok (Start tenant job i w)) e h in
+    let index = bind-ok (in_range 0 last_node a) (λ i. in_range 1 workers b >>= λ w. Ok (Start tenant job i w)) e h in
     let worker = bind-ok (in_range 1 workers b) (λ w. Ok (Start tenant job index.0 w)) e index.2 in
     subst (λ (x : Event). SpellsEvent version workers (codes "s" ∷ tenant ∷ job ∷ a ∷ b ∷ []) x) (ok-is (Start tenant job index.0 worker.0) e worker.2)
-    (record { at = a; by = b; row = refl; names = n; says_index = read-says 0 63 a index.0 index.1; says_worker = read-says 1 workers b worker.0 worker.1 })
+    (record { at = a; by = b; row = refl; names = n; says_index = read-says 0 last_node a index.0 index.1; says_worker = read-says 1 workers b worker.0 worker.1 })
 
 finish-spelled : (version workers : ℕ) (tenant job : List ℕ) (words : List (List ℕ)) (e : Event) → AreNames tenant job → finished workers tenant job words ≡ Ok e → SpellsEvent version workers (codes "f" ∷ tenant ∷ job ∷ words) e
 finish-spelled version workers tenant job [] e n h = absurd (cc)
@@ -109,11 +112,11 @@ finish-spelled version workers tenant job (a ∷ []) e n h = absurd (cc)
 finish-spelled version workers tenant job (a ∷ b ∷ []) e n h = absurd (cc)
 finish-spelled version workers tenant job (a ∷ b ∷ c ∷ x ∷ xs) e n h = absurd (cc)
 finish-spelled version workers tenant job (a ∷ b ∷ c ∷ []) e n h =
-    let outcome = bind-ok (outcome_of c) (λ o. in_range 0 63 a >>= λ i. in_range 1 workers b >>= λ w. Ok (Finish tenant job i w o)) e h in
-    let index = bind-ok (in_range 0 63 a) (λ i. in_range 1 workers b >>= λ w. Ok (Finish tenant job i w outcome.0)) e outcome.2 in
+    let outcome = bind-ok (outcome_of c) (λ o. in_range 0 last_node a >>= λ i. in_range 1 workers b >>= λ w. Ok (Finish tenant job i w o)) e h in
+    let index = bind-ok (in_range 0 last_node a) (λ i. in_range 1 workers b >>= λ w. Ok (Finish tenant job i w outcome.0)) e outcome.2 in
     let worker = bind-ok (in_range 1 workers b) (λ w. Ok (Finish tenant job index.0 w outcome.0)) e index.2 in
     subst (λ (x : Event). SpellsEvent version workers (codes "f" ∷ tenant ∷ job ∷ a ∷ b ∷ c ∷ []) x) (ok-is (Finish tenant job index.0 worker.0 outcome.0) e worker.2)
-    (record { at = a; by = b; row = ap (λ (w : List ℕ). codes "f" ∷ tenant ∷ job ∷ a ∷ b ∷ w ∷ []) (read-outcome c outcome.0 outcome.1); names = n; says_index = read-says 0 63 a index.0 index.1; says_worker = read-says 1 workers b worker.0 worker.1 })
+    (record { at = a; by = b; row = ap (λ (w : List ℕ). codes "f" ∷ tenant ∷ job ∷ a ∷ b ∷ w ∷ []) (read-outcome c outcome.0 outcome.1); names = n; says_index = read-says 0 last_node a index.0 index.1; says_worker = read-says 1 workers b worker.0 worker.1 })
 
 -- by the letter of the kind
 letter : (kind word : List ℕ) → bytes_eq kind word ≡ true → word ≡ kind

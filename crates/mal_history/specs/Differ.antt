@@ -3,6 +3,8 @@ use Rattle.std.specs.Prelude.{◌≡◌, ◌≢◌, ℕ, ◌<◌, ◌^◌, List,
 use Rattle.std.specs.List.{AllByRecursion}
 use Rattle.mal_base.specs.declared.verdict.Outcome.{Outcome}
 use Rattle.mal_base.specs.declared.verdict.Outcome.TheVariants.{Ran, Lost}
+use Rattle.mal_base.specs.declared.profile.Profile.{Profile}
+use Rattle.mal_base.specs.declared.profile.Profile.TheVariants.{Plain, Lean}
 use Rattle.spec_text.specs.Lines.{IsClean}
 use Rattle.mal_history.specs.declared.event.Event.{Event}
 use Rattle.mal_history.specs.declared.event.Event.TheVariants.{Open, Revise, Reask, Close, Balance, Start, Finish, Exchange, Leave, Arrive}
@@ -21,7 +23,7 @@ pub record IsShare (s : Share) : Type 0 where
 
 -- the names of an event are words, and its numbers are numbers
 abbrev pub IsWritable : Event → Type 0
-IsWritable (Open tenant job ask) = IsClean tenant × IsClean job × IsNumber ask.priority × IsNumber ask.demand × IsNumber ask.slices × IsNumber ask.profile
+IsWritable (Open tenant job ask) = IsClean tenant × IsClean job × IsNumber ask.priority × IsNumber ask.demand × IsNumber ask.slices
 IsWritable (Revise tenant job number) = IsClean tenant × IsClean job × IsNumber number
 IsWritable (Reask tenant job weight) = IsClean tenant × IsClean job × IsNumber weight.priority × IsNumber weight.demand
 IsWritable (Close tenant job) = IsClean tenant × IsClean job
@@ -48,7 +50,7 @@ abbrev pub one_start : ℕ → ℕ → Outcome → List Event
 one_start index worker outcome = Start (codes "a") (codes "p") index worker ∷ Finish (codes "a") (codes "p") index worker outcome ∷ []
 
 -- an opening of a job of this profile
-abbrev pub one_open : ℕ → List Event
+abbrev pub one_open : Profile → List Event
 one_open profile = Open (codes "a") (codes "p") (record { priority = 1; demand = 1; slices = 4; profile = profile }) ∷ []
 
 -- a change of a job's weight to this priority
@@ -69,6 +71,6 @@ pub record HaveOtherTexts : Type 0 where
   pub workers : history_text 2 (one_start 0 1 Ran) ≢ history_text 3 (one_start 0 1 Ran)
   pub exchanged : history_text 2 (one_start 2 1 Ran) ≢ history_text 2 (one_start 1 2 Ran)
   pub less : history_text 2 (one_start 0 1 Ran) ≢ history_text 2 []
-  pub profile : history_text 2 (one_open 1) ≢ history_text 2 (one_open 2)
+  pub profile : history_text 2 (one_open Plain) ≢ history_text 2 (one_open Lean)
   pub priority : history_text 2 (one_reask 1) ≢ history_text 2 (one_reask 2)
   pub move : history_text 2 one_leave ≢ history_text 2 one_arrival

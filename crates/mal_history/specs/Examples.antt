@@ -1,5 +1,7 @@
 -- What small texts of histories say.
 use Rattle.std.specs.Prelude.{◌≡◌, ℕ, List, [], ◌∷◌, codes, Ok, Err}
+use Rattle.mal_base.specs.declared.profile.Profile.{Profile}
+use Rattle.mal_base.specs.declared.profile.Profile.TheVariants.{Plain, Lean}
 use Rattle.mal_base.specs.declared.verdict.Outcome.TheVariants.{Ran, Starved}
 use Rattle.spec_dimacs.specs.Rows.{rows_of}
 use Rattle.mal_history.specs.declared.event.Event.{Event}
@@ -9,13 +11,13 @@ use Rattle.mal_history.specs.Reading.{history_from, read_text}
 use Rattle.mal_history.specs.Reading.Fault.{BadLine, BadNumber, TooLong}
 
 -- the opening of the job p of tenant a, under this profile
-abbrev pub open_under : ℕ → Event
+abbrev pub open_under : Profile → Event
 open_under profile = Open (codes "a") (codes "p") (record { priority = 1; demand = 1; slices = 4; profile = profile })
 
 -- the job p of tenant a, from its opening to a finish
 abbrev pub first_events : List Event
 first_events =
-    open_under 1
+    open_under Plain
     ∷ Revise (codes "a") (codes "p") 1
     ∷ Close (codes "a") (codes "p")
     ∷ Balance (record { tenant = codes "a"; job = codes "p"; volume = 1 } ∷ [])
@@ -29,7 +31,7 @@ first_text = codes "h mal 1 1\no a p 1 1 4\nr a p 1\nc a p\nb a p 1\ns a p 0 1\n
 -- the same with a change of the job's weight, in version 2
 abbrev pub second_events : List Event
 second_events =
-    open_under 1
+    open_under Plain
     ∷ Revise (codes "a") (codes "p") 1
     ∷ Reask (codes "a") (codes "p") (record { priority = 5; demand = 2 })
     ∷ Close (codes "a") (codes "p")
@@ -59,8 +61,8 @@ pub record HaveHistories : Type 0 where
   pub first : read_text first_text ≡ Ok (record { workers = 1; events = first_events; lines = 2 ∷ 3 ∷ 4 ∷ 5 ∷ 6 ∷ 7 ∷ [] })
   pub second : read_text second_text ≡ Ok (record { workers = 1; events = second_events; lines = 2 ∷ 3 ∷ 4 ∷ 5 ∷ 6 ∷ 7 ∷ 8 ∷ [] })
   pub version_2_without_reask : read_text (codes "h mal 2 1\nx a p\n") ≡ Ok (record { workers = 1; events = Exchange (codes "a") (codes "p") ∷ []; lines = 2 ∷ [] })
-  pub of_profile_2 : read_text (codes "h mal 1 1\no a p 1 1 4 2") ≡ Ok (record { workers = 1; events = open_under 2 ∷ []; lines = 2 ∷ [] })
-  pub profile_by_value : read_text (codes "h mal 1 1\no a p 1 1 4 02") ≡ Ok (record { workers = 1; events = open_under 2 ∷ []; lines = 2 ∷ [] })
+  pub of_profile_2 : read_text (codes "h mal 1 1\no a p 1 1 4 2") ≡ Ok (record { workers = 1; events = open_under Lean ∷ []; lines = 2 ∷ [] })
+  pub profile_by_value : read_text (codes "h mal 1 1\no a p 1 1 4 02") ≡ Ok (record { workers = 1; events = open_under Lean ∷ []; lines = 2 ∷ [] })
   pub no_event : read_text (codes "h mal 1 64") ≡ Ok (record { workers = 64; events = []; lines = [] })
   pub empty_lines : read_text (codes "\n \t\nh mal 1 002\r\n\n\nb\r\n x  a\tp") ≡ Ok (record { workers = 2; events = Balance [] ∷ Exchange (codes "a") (codes "p") ∷ []; lines = 6 ∷ 7 ∷ [] })
   pub last_worker : read_text (codes "h mal 1 3\nf a p 63 3 starved") ≡ Ok (record { workers = 3; events = Finish (codes "a") (codes "p") 63 3 Starved ∷ []; lines = 2 ∷ [] })

@@ -1,21 +1,23 @@
 -- Histories in form: those that are read from a text.
 use Rattle.std.specs.Prelude.{ℕ, suc, ◌≤◌, List, [], ◌∷◌, length}
 use Rattle.std.specs.List.{AllByRecursion}
+use Rattle.mal_base.specs.Limits.{limits}
 use Rattle.mal_base.specs.Asks.{IsAsk, IsWeight}
 use Rattle.mal_history.specs.declared.event.Event.{Event}
 use Rattle.mal_history.specs.declared.event.Event.TheVariants.{Open, Revise, Reask, Close, Balance, Start, Finish, Exchange, Leave, Arrive}
 use Rattle.mal_history.specs.declared.event.Share.{Share}
 use Rattle.mal_history.specs.Grammar.{AreNames}
 use Rattle.mal_history.specs.Reading.{Read, most_events}
+use Rattle.mal_history.specs.Sizes.{most_workers, last_node}
 
--- a volume in form: both names are, and it is at most 64
+-- a volume in form: both names are, and it is no more than a job may ask for
 pub record IsVolume (s : Share) : Type 0 where
   pub names : AreNames s.tenant s.job
-  pub bound : s.volume ≤ 64
+  pub bound : s.volume ≤ limits.demand
 
 -- a node and a worker are in range
 pub record IsSeat (workers index worker : ℕ) : Type 0 where
-  pub index_bound : index ≤ 63
+  pub index_bound : index ≤ last_node
   pub some_worker : 1 ≤ worker
   pub worker_bound : worker ≤ workers
 
@@ -23,7 +25,7 @@ pub record IsSeat (workers index worker : ℕ) : Type 0 where
 -- form, since what a job brings is not in a text
 abbrev pub IsEvent : ℕ → Event → Type 0
 IsEvent workers (Open tenant job ask) = AreNames tenant job × IsAsk ask
-IsEvent workers (Revise tenant job number) = AreNames tenant job × (1 ≤ number) × (number ≤ 256)
+IsEvent workers (Revise tenant job number) = AreNames tenant job × (1 ≤ number) × (number ≤ limits.revisions)
 IsEvent workers (Reask tenant job weight) = AreNames tenant job × IsWeight weight
 IsEvent workers (Close tenant job) = AreNames tenant job
 IsEvent workers (Balance volumes) = AllByRecursion IsVolume volumes
@@ -33,10 +35,10 @@ IsEvent workers (Exchange tenant job) = AreNames tenant job
 IsEvent workers (Leave tenant job) = ⊥
 IsEvent workers (Arrive tenant job) = ⊥
 
--- a history in form: 1 to 64 workers, and at most 2^24 events, each in form
+-- a history in form: the workers and the events are not too many, and each event is in form
 pub record IsHistory (workers : ℕ) (events : List Event) : Type 0 where
   pub some : 1 ≤ workers
-  pub bound : workers ≤ 64
+  pub bound : workers ≤ most_workers
   pub few : length events ≤ most_events
   pub formed : AllByRecursion (IsEvent workers) events
 

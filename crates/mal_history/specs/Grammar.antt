@@ -1,8 +1,13 @@
 -- The grammar of histories: which history a text spells.
-use Rattle.std.specs.Prelude.{◌≡◌, ℕ, suc, ◌≤◌, true, List, [], ◌∷◌, ◌⊎◌, length, map, codes, pos}
+use Rattle.std.specs.Prelude.{◌≡◌, ℕ, suc, ◌+◌, ◌≤◌, true, List, [], ◌∷◌, ◌⊎◌, length, map, codes, pos}
+use Rattle.mal_base.specs.Limits.{limits}
 use Rattle.mal_base.specs.Asks.{Terms, Weighed}
 use Rattle.mal_base.specs.Names.{is_name}
 use Rattle.mal_base.specs.declared.verdict.Outcome.{Outcome}
+use Rattle.mal_base.specs.Profiles.{number, last_profile}
+use Rattle.mal_base.specs.declared.profile.Profile.{Profile}
+use Rattle.mal_base.specs.declared.profile.Profile.TheVariants.{Plain}
+use Rattle.spec_text.specs.Asks.{first_profile}
 use Rattle.spec_text.specs.Numbers.{number_in}
 use Rattle.spec_text.specs.Numbers.NumberWord.{Number}
 use Rattle.spec_dimacs.specs.Rows.{rows_of}
@@ -11,6 +16,7 @@ use Rattle.mal_history.specs.declared.event.Event.TheVariants.{Open, Revise, Rea
 use Rattle.mal_history.specs.declared.event.Share.{Share}
 use Rattle.mal_history.specs.Text.{outcome_word}
 use Rattle.mal_history.specs.Reading.{Read, most_events}
+use Rattle.mal_history.specs.Sizes.{most_workers, last_node}
 
 -- a word says this number, which is from `low` to `high`
 abbrev pub Says : ℕ → ℕ → List ℕ → ℕ → Type 0
@@ -20,10 +26,10 @@ Says low high word n = (number_in word high ≡ Number (pos n)) × (low ≤ n) �
 abbrev pub AreNames : List ℕ → List ℕ → Type 0
 AreNames tenant job = (is_name tenant ≡ true) × (is_name job ≡ true)
 
--- words say a profile: no word says 1, and one word says 2
-abbrev pub SayProfile : List (List ℕ) → ℕ → Type 0
-SayProfile [] profile = profile ≡ 1
-SayProfile (word ∷ []) profile = Says 2 2 word profile
+-- words say a profile: no word says the first, and one word another
+abbrev pub SayProfile : List (List ℕ) → Profile → Type 0
+SayProfile [] profile = profile ≡ Plain
+SayProfile (word ∷ []) profile = Says (first_profile + 1) last_profile word (number profile)
 SayProfile words profile = ⊥
 
 -- the line of an opening: `o`, the names, and the job's priority, demand, slices and profile
@@ -34,9 +40,9 @@ pub record SpellsOpen (words : List (List ℕ)) (tenant job : List ℕ) (ask : T
   pub profile : List (List ℕ)
   pub row : words ≡ codes "o" ∷ tenant ∷ job ∷ priority ∷ demand ∷ slices ∷ profile
   pub names : AreNames tenant job
-  pub says_priority : Says 1 1000 priority ask.priority
-  pub says_demand : Says 1 64 demand ask.demand
-  pub says_slices : Says 1 4096 slices ask.slices
+  pub says_priority : Says 1 limits.priority priority ask.priority
+  pub says_demand : Says 1 limits.demand demand ask.demand
+  pub says_slices : Says 1 limits.slices slices ask.slices
   pub say_profile : SayProfile profile ask.profile
 
 -- of a revision: `r`, the names, and its number
@@ -44,7 +50,7 @@ pub record SpellsRevise (words : List (List ℕ)) (tenant job : List ℕ) (numbe
   pub word : List ℕ
   pub row : words ≡ codes "r" ∷ tenant ∷ job ∷ word ∷ []
   pub names : AreNames tenant job
-  pub says_number : Says 1 256 word number
+  pub says_number : Says 1 limits.revisions word number
 
 -- of a change of a job's weight, which only version 2 has: `q`, the names, and the job's priority and demand
 pub record SpellsReask (version : ℕ) (words : List (List ℕ)) (tenant job : List ℕ) (weight : Weighed) : Type 0 where
@@ -53,15 +59,15 @@ pub record SpellsReask (version : ℕ) (words : List (List ℕ)) (tenant job : L
   pub row : words ≡ codes "q" ∷ tenant ∷ job ∷ priority ∷ demand ∷ []
   pub version_is : version ≡ 2
   pub names : AreNames tenant job
-  pub says_priority : Says 1 1000 priority weight.priority
-  pub says_demand : Says 1 64 demand weight.demand
+  pub says_priority : Says 1 limits.priority priority weight.priority
+  pub says_demand : Says 1 limits.demand demand weight.demand
 
 -- words say volumes: the names of each one's job, and its volume
 pub record SayShare (words : List (List ℕ)) (share : Share) (behind : List (List ℕ)) : Type 0 where
   pub volume : List ℕ
   pub row : words ≡ share.tenant ∷ share.job ∷ volume ∷ behind
   pub names : AreNames share.tenant share.job
-  pub says_volume : Says 0 64 volume share.volume
+  pub says_volume : Says 0 limits.demand volume share.volume
 
 abbrev pub SayShares : List (List ℕ) → List Share → Type 0
 SayShares words [] = words ≡ []
@@ -79,7 +85,7 @@ pub record SpellsStart (workers : ℕ) (words : List (List ℕ)) (tenant job : L
   pub by : List ℕ
   pub row : words ≡ codes "s" ∷ tenant ∷ job ∷ at ∷ by ∷ []
   pub names : AreNames tenant job
-  pub says_index : Says 0 63 at index
+  pub says_index : Says 0 last_node at index
   pub says_worker : Says 1 workers by worker
 
 -- of a finish: `f`, the names, the node's index, the worker, and the outcome
@@ -88,7 +94,7 @@ pub record SpellsFinish (workers : ℕ) (words : List (List ℕ)) (tenant job : 
   pub by : List ℕ
   pub row : words ≡ codes "f" ∷ tenant ∷ job ∷ at ∷ by ∷ outcome_word outcome ∷ []
   pub names : AreNames tenant job
-  pub says_index : Says 0 63 at index
+  pub says_index : Says 0 last_node at index
   pub says_worker : Says 1 workers by worker
 
 -- the words of a line spell an event, in this version of the format, of a history of so many workers; those of a closing
@@ -115,14 +121,14 @@ pub record SpellsHeader (words : List (List ℕ)) (version workers : ℕ) : Type
   pub workers_word : List ℕ
   pub row : words ≡ codes "h" ∷ codes "mal" ∷ version_word ∷ workers_word ∷ []
   pub says_version : SaysVersion version_word version
-  pub says_workers : Says 1 64 workers_word workers
+  pub says_workers : Says 1 most_workers workers_word workers
 
 -- a line that is not empty, with its number
 pub record Row : Type 0 where
   pub line : ℕ
   pub words : List (List ℕ)
 
--- the lines that are not empty, of those behind so many lines
+-- the lines that are not empty, of those after so many lines
 abbrev pub numbered : ℕ → List (List (List ℕ)) → List Row
 numbered line [] = []
 numbered line ([] ∷ rows) = numbered (suc line) rows

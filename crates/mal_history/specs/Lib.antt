@@ -8,6 +8,7 @@ pub mod Formed
 pub mod Laws
 pub mod Examples
 pub mod Own
+pub mod Sizes
 pub mod ReadResult
 pub mod Pieced
 pub mod Posts

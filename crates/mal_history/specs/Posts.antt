@@ -1,9 +1,8 @@
 -- Which events are posts of tenants.
-use Rattle.std.specs.Prelude.{ℕ, List, Option, Some, None}
+use Rattle.std.specs.Prelude.{Option, Some, None}
 use Rattle.mal_history.specs.declared.event.Event.{Event}
 use Rattle.mal_history.specs.declared.event.Event.TheVariants as of
 use Rattle.mal_history.specs.declared.post.PostLine.{PostLine}
-use Rattle.mal_history.specs.declared.post.PostKind.{PostKind}
 use Rattle.mal_history.specs.declared.post.PostKind.TheVariants.{Opening, Revision, Reasking, Closing}
 
 -- which post an event is: none for what the hall does by itself
@@ -18,14 +17,3 @@ post_of (of.Finish tenant job index worker outcome) = None
 post_of (of.Exchange tenant job) = None
 post_of (of.Leave tenant job) = None
 post_of (of.Arrive tenant job) = None
-
--- the event of what is posted of a job
-abbrev pub event_about : List ℕ → List ℕ → PostKind → Event
-event_about tenant job (Opening ask) = of.Open tenant job ask
-event_about tenant job (Revision number) = of.Revise tenant job number
-event_about tenant job (Reasking weight) = of.Reask tenant job weight
-event_about tenant job Closing = of.Close tenant job
-
--- the event of a post
-abbrev pub event_of : PostLine → Event
-event_of post = event_about post.tenant post.job post.kind

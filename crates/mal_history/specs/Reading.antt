@@ -1,17 +1,24 @@
 -- Reading a history line by line: the history, or the first fault with its line.
-use Rattle.std.specs.Prelude.{ℕ, suc, ◌^◌, Bool, true, false, ◌&&◌, List, [], ◌∷◌, codes, bytes_eq, ◌==◌, nat_lt, nat_le, if◌then◌else◌, pos, Result, Ok, Err}
+use Rattle.std.specs.Prelude.{ℕ, suc, ◌^◌, Bool, true, false, ◌&&◌, List, [], ◌∷◌, codes, bytes_eq, ◌==◌, nat_lt, nat_le, if◌then◌else◌, pos, Option, Some, None, Result, Ok, Err}
+use Rattle.mal_base.specs.Limits.{limits}
 use Rattle.mal_base.specs.Asks.{Terms, Weighed}
 use Rattle.mal_base.specs.Names.{is_name}
 use Rattle.mal_base.specs.declared.verdict.Outcome.{Outcome}
 use Rattle.mal_base.specs.declared.verdict.Outcome.TheVariants.{Ran, Starved, Lost}
+use Rattle.mal_base.specs.Profiles as profiles
+use Rattle.mal_base.specs.Profiles.{number}
+use Rattle.mal_base.specs.declared.profile.Profile.{Profile}
+use Rattle.mal_base.specs.declared.profile.Profile.TheVariants.{Plain}
+use Rattle.spec_text.specs.Asks.{ask_in, is_first, profile_in, weight_in}
 use Rattle.spec_text.specs.Numbers.{NumberWord, number_in}
-use Rattle.spec_text.specs.Numbers.NumberWord.{NotANumber, Number}
+use Rattle.spec_text.specs.Numbers.NumberWord.{NotANumber, TooLarge, Number}
 use Rattle.spec_dimacs.specs.Rows.{rows_of}
 use Rattle.spec_dimacs.specs.Reading.{◌>>=◌}
 use Rattle.mal_history.specs.declared.event.Event.{Event}
 use Rattle.mal_history.specs.declared.event.Event.TheVariants.{Open, Revise, Reask, Close, Balance, Start, Finish, Exchange}
 use Rattle.mal_history.specs.declared.event.Share.{Share}
 use Rattle.mal_history.specs.declared.line.Header.{Header}
+use Rattle.mal_history.specs.Sizes.{most_workers, last_node}
 
 -- what can be wrong with a line of a history
 pub data Fault : Type 0 where
@@ -45,31 +52,39 @@ version_said word =
 abbrev pub header_of : List (List ℕ) → Result Header Fault
 header_of (h ∷ mal ∷ version ∷ workers ∷ []) =
     if bytes_eq h (codes "h") && bytes_eq mal (codes "mal")
-    then version_said version >>= (λ v. in_range 1 64 workers >>= λ w. Ok (record { version = v; workers = w }))
+    then version_said version >>= (λ v. in_range 1 most_workers workers >>= λ w. Ok (record { version = v; workers = w }))
     else Err BadLine
 header_of others = Err BadLine
 
+-- what is read of the words of numbers, of which each other word is a bad number
+abbrev pub or_bad_number : {A F : Type 0} → Result A F → Result A Fault
+or_bad_number (Ok x) = Ok x
+or_bad_number (Err fault) = Err BadNumber
+
 -- the ask of three words and of a profile
-abbrev pub ask_of : List ℕ → List ℕ → List ℕ → ℕ → Result Terms Fault
-ask_of p d s profile =
-    in_range 1 1000 p >>= λ priority. in_range 1 64 d >>= λ demand. in_range 1 4096 s >>= λ slices.
-    Ok (record { priority = priority; demand = demand; slices = slices; profile = profile })
+abbrev pub ask_of : List ℕ → List ℕ → List ℕ → Profile → Result Terms Fault
+ask_of p d s profile = or_bad_number (ask_in p d s (Number (pos (number profile))))
 
 -- the weight of two words
 abbrev pub weight_of : List ℕ → List ℕ → Result Weighed Fault
-weight_of p d = in_range 1 1000 p >>= λ priority. in_range 1 64 d >>= λ demand. Ok (record { priority = priority; demand = demand })
+weight_of p d = or_bad_number (weight_in p d)
 
--- the profile that a word says behind an ask, where 2 alone is written: another number is out of range, and a word that
--- is no number is none that stands there
-abbrev pub profile_said : NumberWord → Result ℕ Fault
+-- a profile that is written, which the first one is not
+abbrev pub other_profile : Option Profile → Result Profile Fault
+other_profile None = Err BadNumber
+other_profile (Some profile) = if is_first profile then Err BadNumber else Ok profile
+
+-- the profile that is said after an ask: the number of none that is written is out of range, and a word that is no
+-- number is none that stands there
+abbrev pub profile_said : NumberWord → Result Profile Fault
 profile_said NotANumber = Err BadLine
-profile_said word = ranged 2 2 word
+profile_said TooLarge = Err BadNumber
+profile_said (Number z) = other_profile (profiles.profile_of z)
 
--- the profile that the words behind an ask say: no word says 1
-abbrev pub profile_of : List (List ℕ) → Result ℕ Fault
-profile_of [] = Ok 1
-profile_of (word ∷ []) = profile_said (number_in word 2)
-profile_of words = Err BadLine
+-- the profile that the words after an ask say: no word says the first
+abbrev pub profile_of : List (List ℕ) → Result Profile Fault
+profile_of [] = Ok Plain
+profile_of (word ∷ words) = profile_said (profile_in (word ∷ words))
 
 -- the outcome that a word says
 abbrev pub outcome_of : List ℕ → Result Outcome Fault
@@ -79,13 +94,13 @@ outcome_of word =
     if bytes_eq word (codes "lost") then Ok Lost else
     Err BadLine
 
--- the events of a job of a tenant, each of the words behind their names
+-- the events of a job of a tenant, each of the words after their names
 abbrev pub opened : List ℕ → List ℕ → List (List ℕ) → Result Event Fault
 opened tenant job (priority ∷ demand ∷ slices ∷ words) = profile_of words >>= λ profile. ask_of priority demand slices profile >>= λ ask. Ok (Open tenant job ask)
 opened tenant job words = Err BadLine
 
 abbrev pub revised : List ℕ → List ℕ → List (List ℕ) → Result Event Fault
-revised tenant job (number ∷ []) = in_range 1 256 number >>= λ r. Ok (Revise tenant job r)
+revised tenant job (number ∷ []) = in_range 1 limits.revisions number >>= λ r. Ok (Revise tenant job r)
 revised tenant job words = Err BadLine
 
 abbrev pub reasked : List ℕ → List ℕ → List (List ℕ) → Result Event Fault
@@ -97,12 +112,12 @@ closed tenant job [] = Ok (Close tenant job)
 closed tenant job (word ∷ words) = Err BadLine
 
 abbrev pub started : ℕ → List ℕ → List ℕ → List (List ℕ) → Result Event Fault
-started workers tenant job (index ∷ worker ∷ []) = in_range 0 63 index >>= λ i. in_range 1 workers worker >>= λ w. Ok (Start tenant job i w)
+started workers tenant job (index ∷ worker ∷ []) = in_range 0 last_node index >>= λ i. in_range 1 workers worker >>= λ w. Ok (Start tenant job i w)
 started workers tenant job words = Err BadLine
 
 abbrev pub finished : ℕ → List ℕ → List ℕ → List (List ℕ) → Result Event Fault
 finished workers tenant job (index ∷ worker ∷ outcome ∷ []) =
-    outcome_of outcome >>= λ o. in_range 0 63 index >>= λ i. in_range 1 workers worker >>= λ w. Ok (Finish tenant job i w o)
+    outcome_of outcome >>= λ o. in_range 0 last_node index >>= λ i. in_range 1 workers worker >>= λ w. Ok (Finish tenant job i w o)
 finished workers tenant job words = Err BadLine
 
 abbrev pub exchanged : List ℕ → List ℕ → List (List ℕ) → Result Event Fault
@@ -121,7 +136,7 @@ event_of_job version workers kind tenant job words =
     if bytes_eq kind (codes "x") then exchanged tenant job words else
     Err BadLine
 
--- behind the letter stand the names of a tenant and of a job
+-- after the letter stand the names of a tenant and of a job
 abbrev pub named_event : ℕ → ℕ → List ℕ → List (List ℕ) → Result Event Fault
 named_event version workers kind (tenant ∷ job ∷ words) = if is_name tenant && is_name job then event_of_job version workers kind tenant job words else Err BadLine
 named_event version workers kind words = Err BadLine
@@ -135,7 +150,7 @@ are_shares words = false
 -- the volumes that such words say
 abbrev pub shares_of : List (List ℕ) → Result (List Share) Fault
 shares_of (tenant ∷ job ∷ volume ∷ words) =
-    in_range 0 64 volume >>= λ v. shares_of words >>= λ shares. Ok (record { tenant = tenant; job = job; volume = v } ∷ shares)
+    in_range 0 limits.demand volume >>= λ v. shares_of words >>= λ shares. Ok (record { tenant = tenant; job = job; volume = v } ∷ shares)
 shares_of words = Ok []
 
 abbrev pub balanced : List (List ℕ) → Result Event Fault
@@ -146,7 +161,7 @@ abbrev pub event_of : ℕ → ℕ → List (List ℕ) → Result Event Fault
 event_of version workers [] = Err BadLine
 event_of version workers (kind ∷ words) = if bytes_eq kind (codes "b") then balanced words else named_event version workers kind words
 
--- the event of a line behind so many events, of which there may be `max`
+-- the event of a line after so many events, of which there may be `max`
 abbrev pub next_event : ℕ → ℕ → ℕ → ℕ → List (List ℕ) → Result Event Fault
 next_event max version workers count words = event_of version workers words >>= λ e. if nat_lt count max then Ok e else Err TooLong
 
@@ -159,14 +174,14 @@ on_line line (Err fault) = Err (line, fault)
 abbrev pub with_event : ℕ → Event → Read → Read
 with_event line e h = record { workers = h.workers; events = e ∷ h.events; lines = line ∷ h.lines }
 
--- the events of the lines that are left, behind so many lines and so many events; empty lines are passed over
+-- the events of the lines that are left, after so many lines and so many events; empty lines are passed over
 abbrev pub events_from : ℕ → ℕ → ℕ → ℕ → ℕ → List (List (List ℕ)) → Result Read (ℕ × Fault)
 events_from max version workers line count [] = Ok (record { workers = workers; events = []; lines = [] })
 events_from max version workers line count ([] ∷ rows) = events_from max version workers (suc line) count rows
 events_from max version workers line count ((word ∷ words) ∷ rows) =
     on_line (suc line) (next_event max version workers count (word ∷ words)) >>= λ e. events_from max version workers (suc line) (suc count) rows >>= λ h. Ok (with_event (suc line) e h)
 
--- the history of the lines that are left, behind so many empty lines; where no line has words, line 1 is wrong
+-- the history of the lines that are left, after so many empty lines; where no line has words, line 1 is wrong
 abbrev pub history_from : ℕ → ℕ → List (List (List ℕ)) → Result Read (ℕ × Fault)
 history_from max line [] = Err (1, BadLine)
 history_from max line ([] ∷ rows) = history_from max (suc line) rows

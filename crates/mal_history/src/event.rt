@@ -9,7 +9,7 @@ use std::alloc::{AllocError, Global};
 use std::marker::Model;
 use std::sync::Arc;
 
-/// The volume of one job in a balancing: how many of its solvers may run at a time, 0 to 64.
+/// The volume of one job in a balancing: how many of its solvers may run at a time, from 0 to the greatest demand.
 #[derive(Clone, Copy, PartialEq, Eq)]
 pub struct Share {
     pub tenant: Name,
@@ -61,7 +61,7 @@ impl Shares {
         self.items.reserve_exact(count)
     }
 
-    /// Puts a volume behind the others. After want of memory they are as before.
+    /// Puts a volume after the others. If memory runs out, they are as before.
     pub fn push(&mut self, share: Share) -> Result<(), AllocError>
         ensures ok { OnOk result (self.new ≡ self.old ++ share ∷ []) }
         ensures err { OnErr result (self.new ≡ self.old) }
@@ -72,7 +72,7 @@ impl Shares {
         Ok(())
     }
 
-    /// Puts a volume behind the others that is shared with other balancings. After want of memory they are as before.
+    /// Puts a volume after the others that is shared with other balancings. If memory runs out, they are as before.
     pub fn push_shared(&mut self, share: &Arc<Share>) -> Result<(), AllocError>
         ensures ok { OnOk result (self.new ≡ self.old ++ arc_value share.now ∷ []) }
         ensures err { OnErr result (self.new ≡ self.old) }
@@ -113,7 +113,8 @@ impl Assignment {
     }
 }
 
-/// An event of a hall. Revisions of a job are numbered from 1, nodes of its tree from 0 to 63, workers from 1.
+/// An event of a hall. Revisions of a job are numbered from 1, nodes of its tree from 0 to
+/// [`crate::LAST_NODE`], workers from 1.
 #[derive(Drop)]
 pub enum Event {
     Open {

@@ -11,6 +11,7 @@ mod owned;
 mod pieced;
 mod post;
 mod reading;
+mod sizes;
 mod writing;
 
 pub use event::{Event, Share, Shares};
@@ -22,4 +23,5 @@ pub use laws::{
 pub use owned::own;
 pub use post::{PostKind, PostLine};
 pub use reading::read;
+pub use sizes::{LAST_NODE, MOST_WORKERS};
 pub use writing::{append_event, write, write_to};

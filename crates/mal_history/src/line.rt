@@ -3,28 +3,30 @@
 ghost use Rattle.std.specs.Prelude.{◌≡◌, ◌≤◌, ◌<◌, [], ◌∷◌, ◌++◌, length, IfOk, IfSome, OnOk};
 ghost use Rattle.std.specs.Arc.{arc_value};
 ghost use Rattle.spec_text.specs.Inputs.{words_of};
-ghost use Rattle.mal_history.specs.{Reading.{header_of, version_said, outcome_of, profile_of, opened, revised, reasked, closed, started, finished, exchanged, event_of_job, named_event, balanced, event_of, next_event}, ReadResult.{AreNamed, AreTwo, Gives, IsOnly}};
+ghost use Rattle.mal_history.specs.{Sizes.{most_workers}, Reading.{header_of, version_said, outcome_of, opened, revised, reasked, closed, started, finished, exchanged, event_of_job, named_event, balanced, event_of, next_event}, ReadResult.{AreNamed, AreTwo, Gives, IsOnly}};
 
 use crate::event::{Event, Share, Shares};
 use crate::fault::EventFault;
-use crate::numbers::{ask_in, in_range, profile_said, weight_in};
-use mal_base::{Name, Outcome};
+use crate::numbers::{ask_in, in_range, profile_in, weight_in};
+use crate::sizes::{LAST_NODE, MOST_WORKERS};
+use mal_base::{LIMITS, Name, Outcome};
 use mal_text::first_word;
 use std::alloc::{AllocError, Global};
 use std::sync::Arc;
 
-/// What the first line of a history says: the version of the format, 1 or 2, and the number of workers, from 1 to 64.
+/// What the first line of a history says: the version of the format, 1 or 2, and the number of workers, from 1 to
+/// [`MOST_WORKERS`].
 #[derive(Clone, Copy)]
 pub struct Header {
     pub version: u32,
     pub workers: u32,
 }
 
-/// What a header says: its first word, and the line behind it.
+/// What a header says: its first word, and the line after it.
 pub fn read_header(first: &[u8], line: &[u8]) -> Result<Header, EventFault>
     ensures value { Gives result (header_of (first.now ∷ words_of line.now)) }
     ensures some { IfOk result (λ h. 1 ≤ h.workers) }
-    ensures bound { IfOk result (λ h. h.workers ≤ 64) }
+    ensures bound { IfOk result (λ h. h.workers ≤ most_workers) }
 {
     let Some((mal, version, line)) = two_words(line) else {
         return Err(EventFault::BadLine);
@@ -36,7 +38,7 @@ pub fn read_header(first: &[u8], line: &[u8]) -> Result<Header, EventFault>
         return Err(EventFault::BadLine);
     }
     let version = version_said(version)?;
-    let workers = in_range(workers, 1, 64).ok_or(EventFault::BadNumber)?;
+    let workers = in_range(workers, 1, MOST_WORKERS).ok_or(EventFault::BadNumber)?;
     Ok(Header { version, workers })
 }
 
@@ -66,7 +68,7 @@ fn only_word(line: &[u8]) -> Option<&[u8]>
     }
 }
 
-/// The event of a line behind these events, of which there may be `max`: its first word, and the line behind it.
+/// The event of a line after these events, of which there may be `max`: its first word, and the line after it.
 pub fn next_event(
     alloc: Global,
     first: &[u8],
@@ -78,7 +80,7 @@ pub fn next_event(
     ensures { Gives result
         (next_event max header.version header.workers (length events.now) (first.now ∷ words_of line.now)) }
 {
-    // TooLong comes behind the line's own faults.
+    // TooLong comes after the line's own faults.
     let event = read_event(alloc, first, line, header, events)?;
     if events.len() < max {
         Ok(event)
@@ -87,7 +89,7 @@ pub fn next_event(
     }
 }
 
-/// The event of a line behind these events: its first word, and the line behind it.
+/// The event of a line after these events: its first word, and the line after it.
 fn read_event(
     alloc: Global,
     first: &[u8],
@@ -115,7 +117,7 @@ fn read_named(kind: &[u8], line: &[u8], header: Header) -> Result<Event, EventFa
     read_kind(kind, tenant, job, line, header)
 }
 
-/// The event of this kind, of a job of a tenant, of the line behind their names. Only version 2 has a `q` line.
+/// The event of this kind, of a job of a tenant, of the line after their names. Only version 2 has a `q` line.
 fn read_kind(
     kind: &[u8],
     tenant: Name,
@@ -160,23 +162,6 @@ fn read_open(tenant: Name, job: Name, line: &[u8]) -> Result<Event, EventFault>
     Ok(Event::Open { tenant, job, ask })
 }
 
-/// The profile that the words behind an ask say: 1 where there is no word, and else 2.
-fn profile_in(line: &[u8]) -> Result<u32, EventFault>
-    ensures value { Gives result (profile_of (words_of line.now)) }
-    ensures some { IfOk result (λ n. 1 ≤ n) }
-    ensures bound { IfOk result (λ n. n ≤ 2) }
-{
-    let Some((word, behind)) = first_word(line) else {
-        return Ok(1);
-    };
-    match first_word(behind) {
-        // One spelling for each opening: only 2 may stand here, so 1 is BadNumber, and a word that is no number is no
-        // word of this line.
-        None => profile_said(word),
-        Some(_) => Err(EventFault::BadLine),
-    }
-}
-
 /// A revision of a job, of the word of its number.
 fn read_revise(tenant: Name, job: Name, line: &[u8]) -> Result<Event, EventFault>
     ensures { Gives result (revised tenant job (words_of line.now)) }
@@ -184,7 +169,7 @@ fn read_revise(tenant: Name, job: Name, line: &[u8]) -> Result<Event, EventFault
     let Some(number) = only_word(line) else {
         return Err(EventFault::BadLine);
     };
-    let number = in_range(number, 1, 256).ok_or(EventFault::BadNumber)?;
+    let number = in_range(number, 1, LIMITS.revisions as u32).ok_or(EventFault::BadNumber)?;
     Ok(Event::Revise {
         tenant,
         job,
@@ -210,7 +195,7 @@ fn read_reask(tenant: Name, job: Name, line: &[u8]) -> Result<Event, EventFault>
     })
 }
 
-/// The closing of a job, behind which no word stands.
+/// The closing of a job, after which no word stands.
 fn read_close(tenant: Name, job: Name, line: &[u8]) -> Result<Event, EventFault>
     ensures { Gives result (closed tenant job (words_of line.now)) }
 {
@@ -230,7 +215,7 @@ fn read_start(tenant: Name, job: Name, line: &[u8], workers: u32) -> Result<Even
     let Some(worker) = only_word(line) else {
         return Err(EventFault::BadLine);
     };
-    let index = in_range(index, 0, 63).ok_or(EventFault::BadNumber)?;
+    let index = in_range(index, 0, LAST_NODE).ok_or(EventFault::BadNumber)?;
     let worker = in_range(worker, 1, workers).ok_or(EventFault::BadNumber)?;
     Ok(Event::Start {
         tenant,
@@ -251,7 +236,7 @@ fn read_finish(tenant: Name, job: Name, line: &[u8], workers: u32) -> Result<Eve
         return Err(EventFault::BadLine);
     };
     let outcome = outcome_in(outcome)?;
-    let index = in_range(index, 0, 63).ok_or(EventFault::BadNumber)?;
+    let index = in_range(index, 0, LAST_NODE).ok_or(EventFault::BadNumber)?;
     let worker = in_range(worker, 1, workers).ok_or(EventFault::BadNumber)?;
     Ok(Event::Finish {
         tenant,
@@ -277,7 +262,7 @@ fn outcome_in(word: &[u8]) -> Result<Outcome, EventFault>
     }
 }
 
-/// An exchange of a job, behind which no word stands.
+/// An exchange of a job, after which no word stands.
 fn read_exchange(tenant: Name, job: Name, line: &[u8]) -> Result<Event, EventFault>
     ensures { Gives result (exchanged tenant job (words_of line.now)) }
 {
@@ -311,7 +296,7 @@ fn read_balance(alloc: Global, line: &[u8], earlier: &[Arc<Share>]) -> Result<Ev
             return Err(EventFault::BadLine);
         };
         let (tenant, job) = names_in(tenant, job)?;
-        match in_range(volume, 0, 64) {
+        match in_range(volume, 0, LIMITS.demand) {
             Some(volume) => {
                 let share = Share {
                     tenant,
@@ -331,8 +316,8 @@ fn read_balance(alloc: Global, line: &[u8], earlier: &[Arc<Share>]) -> Result<Ev
     }
 }
 
-/// Puts a volume behind the others, shared with an earlier one where one that is alike stands at this place or near
-/// behind it. Answers the place from which on the next one is looked for.
+/// Puts a volume after the others, shared with an earlier one where one that is alike stands at this place or near
+/// after it. Answers the place from which on the next one is looked for.
 fn put_share(
     shares: &mut Shares,
     share: &Share,
@@ -353,7 +338,7 @@ fn put_share(
     }
 }
 
-/// An equal volume among the 16 from this place on, with the place behind it.
+/// An equal volume among the 16 from this place on, with the place after it.
 fn alike<'a>(share: &Share, earlier: &'a [Arc<Share>], at: usize) -> Option<(&'a Arc<Share>, usize)>
     ensures { IfSome result (λ p. arc_value p.0.now ≡ share.now) }
 {
@@ -366,7 +351,7 @@ fn alike<'a>(share: &Share, earlier: &'a [Arc<Share>], at: usize) -> Option<(&'a
     None
 }
 
-/// The first two words of a line, and the line behind them. None where it has fewer.
+/// The first two words of a line, and the line after them. None where it has fewer.
 fn two_words(line: &[u8]) -> Option<(&[u8], &[u8], &[u8])>
     ensures two { AreTwo result (words_of line.now) }
     ensures shorter { IfSome result (λ t. length t.2.now ≤ length line.now) }

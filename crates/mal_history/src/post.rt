@@ -1,7 +1,7 @@
 //! Which post of a tenant an event is.
 
-ghost use Rattle.std.specs.Prelude.{◌≡◌, ◌↔◌, IsTrue};
-ghost use Rattle.mal_history.specs.Posts.{event_of, post_of};
+ghost use Rattle.std.specs.Prelude.{◌≡◌};
+ghost use Rattle.mal_history.specs.Posts.{post_of};
 
 use crate::event::Event;
 use mal_base::{Ask, Name, Weight};
@@ -44,15 +44,5 @@ impl Event {
             _ => return None,
         };
         Some(PostLine { tenant, job, kind })
-    }
-
-    /// Whether the event is this post.
-    pub fn is_post(&self, post: PostLine) -> bool
-        ensures { IsTrue result ↔ (self.now ≡ event_of post) }
-    {
-        match self.post() {
-            Some(own) => own == post,
-            None => false,
-        }
     }
 }

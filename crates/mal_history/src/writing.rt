@@ -124,7 +124,7 @@ fn put_events<T: Taker>(out: &mut T, events: &[Event]) -> Result<(), T::Fault>
     Ok(())
 }
 
-/// Puts the line of an event behind the others.
+/// Puts the line of an event after the others.
 pub fn append_event(out: &mut Vec<u8>, event: &Event) -> Result<(), AllocError>
     ensures { OnOk result (out.new.items ≡ out.old.items ++ line_of (event_words event.now)) }
 {
@@ -233,7 +233,7 @@ fn put_balance<T: Taker>(out: &mut T, shares: &[Arc<Share>]) -> Result<(), T::Fa
     Ok(())
 }
 
-/// Puts the words of a volume, each behind a space.
+/// Puts the words of a volume, each after a space.
 fn put_share<T: Taker>(out: &mut T, share: &Share) -> Result<(), T::Fault>
     ensures { OnOk result (T.took out.old out.new (flat_map (λ w. 32 ∷ w) (share_words share.now))) }
 {
@@ -264,7 +264,7 @@ fn put_node<T: Taker>(
     Ok(())
 }
 
-/// Puts the words of a node and its worker, each behind a space.
+/// Puts the words of a node and its worker, each after a space.
 fn put_assignment<T: Taker>(out: &mut T, assigned: Assignment) -> Result<(), T::Fault>
     ensures { OnOk result (T.took out.old out.new (flat_map (λ w. 32 ∷ w) (assignment_words assigned))) }
 {

@@ -1,14 +1,19 @@
 -- What an inquiry keeps, step by step.
-use Rattle.std.proofs.Common.{◌≡◌, ℕ, suc, ◌+◌, ◌≤◌, List, [], ◌∷◌, ◌++◌, length, Some, None, Result, Ok, Err, false, true, refl, sym, ap, subst, ◌∙◌, append-nil, arith}
+use Rattle.std.proofs.Common.{◌≡◌, ℕ, suc, ◌+◌, ◌≤◌, List, [], ◌∷◌, ◌++◌, length, Option, Some, None, Result, Ok, Err, false, true, refl, sym, ap, subst, ◌∙◌, append-nil, arith}
 use Rattle.std.specs.Prelude.{IfOk, OnOk}
+use Rattle.std.specs.Option.{option_map, option_map_or}
 use Rattle.std.proofs.lemmas.List.{length-append, length-map}
+use Rattle.mal_base.specs.Limits.{limits}
 use Rattle.mal_base.specs.Asks.{Terms}
+use Rattle.mal_base.specs.NumberedClause.{Line}
 use Rattle.mal_base.specs.declared.hall_fault.OpenFault.{OpenFault}
 use Rattle.mal_base.specs.declared.hall_fault.ReviseFault.{ReviseFault}
 use Rattle.mal_base.specs.declared.hall_fault.ReviseFault.TheVariants as revising
 use Rattle.mal_hall.specs.HallView.{HallView}
 use Rattle.mal_hall.specs.Replying.{HasJob}
+use Rattle.mal_job.specs.Findings.{Finds, told_by}
 use Rattle.mal_job.specs.Replying.{Tells}
+use Rattle.mal_job.specs.declared.finding.Finding.{Finding}
 use Rattle.mal_report.specs.Told.{body_of}
 use Rattle.mal_report.specs.declared.told.Told.{Told}
 use Rattle.mal_revision.specs.Posted.{Posted}
@@ -27,9 +32,10 @@ use Rattle.spec_run.specs.Posting.{IsOpen}
 use Rattle.spec_run.proofs.OpenLemmas.{open-found, revised-is_open}
 use Rattle.spec_inquiry.specs.Asking.{HasAsked, MayAsk}
 use Rattle.spec_inquiry.specs.Rounds.{Round, IsInquiry, revisions_in}
+use Rattle.spec_inquiry.specs.Searches.{lines_in, proofs_in}
 use Rattle.spec_inquiry.proofs.AskedLemmas.{answered-told, found-is, found-tells, next-round, open-idle, open-wanted, revise-wanted, round-asked}
 use Rattle.spec_inquiry.proofs.OpenLemmas.{inquiry-is_open, opened-open, turns-open}
-use Rattle.mal_inquiry.specs.InquiryView.{InquiryView, IsKept, IsAnswered, HasPosted, TellsLast, machine, next_in}
+use Rattle.mal_inquiry.specs.InquiryView.{InquiryView, IsKept, IsAnswered, IsLast, HasFound, HasPosted, TellsLast, machine, next_in}
 
 -- a job that is opened in a hall without events is an inquiry of no round, and it is kept
 pub opened-inquiry : (workers : ℕ) (past : List Event) (k : Key) (ask : Terms) (history : List Event) → past ≡ [] → HasCalled workers past (Opens k ask) (Ok tt) history → IsInquiry k ask [] history
@@ -42,13 +48,13 @@ new-kept hall k ask one i = record { alone = one; home = ap leases i.asked; revi
 
 -- what is known of a revision that was posted
 pub record Posts (x y : HallView) (k : Key) (asked : ℕ) (r : Posted) : Type 0 where
-  pub few : asked + 1 ≤ 256
+  pub few : asked + 1 ≤ limits.revisions
   pub posted : HasPosted (record { key = k; events = x.events }) r (record { key = k; events = y.events })
   pub kept : IsKept y k (asked + 1)
 
 pub posts-next : (x y : HallView) (k : Key) (asked : ℕ) (r : Posted) → IsKept x k asked → y.workers ≡ x.workers → HasCalled x.workers x.events (Revises k r) (Ok tt) y.events → Posts x y k asked r
 posts-next x y k asked r kept same called = record {
-  few = subst (λ (n : ℕ). n + 1 ≤ 256) (many ∙ sym kept.counted) may.room;
+  few = subst (λ (n : ℕ). n + 1 ≤ limits.revisions) (many ∙ sym kept.counted) may.room;
   posted = record {
     may = (t, subst (λ (n : ℕ). MayRevise x.events k n r t) number may);
     grown = grown ∙ ap (λ (n : ℕ). x.events ++ Revise k n r ∷ []) number;
@@ -93,22 +99,28 @@ turns-kept x y k asked kept same home grows = record {
 pub kept-answered : (x : HallView) (k : Key) (asked : ℕ) → IsKept x k asked → IsAtEnd x.events → lives (states x.events) ≡ [] → IsAnswered (record { key = k; events = x.events })
 kept-answered x k asked kept end none = record { idle = open-idle k kept.revisions x.events kept.is_open end; none = none }
 
--- what a hall tells of the last revision is what the machine tells alone, and it tells something
-pub last-told : (x : HallView) (k : Key) (asked : ℕ) (told : Told) → IsKept x k asked → HasJob k x.events (Tells asked (Some told)) → TellsLast (record { key = k; events = x.events }) (body_of told)
-last-told x k asked told kept has =
+-- what a hall finds of the last revision the machine tells alone, and something is found of it
+pub last-found : (x : HallView) (k : Key) (asked : ℕ) (found : Finding) → IsKept x k asked → HasJob k x.events (Finds asked (Some found)) → IsLast (record { key = k; events = x.events }) found
+last-found x k asked found kept has =
     let many : asked ≡ length (solo (own k x.events)).revisions = kept.counted ∙ ap (λ (ps : List Posted). length ps) (sym kept.is_open.posted) in
-    subst (λ (n : ℕ). replies.body_of n (solo (own k x.events)) ≡ Some (body_of told)) many (found-tells k kept.revisions x.events has.0 asked (body_of told) kept.is_open has.1 has.2)
+    (has.2.0, subst (λ (n : ℕ). replies.body_of n (solo (own k x.events)) ≡ Some (told_by has.2.0 found)) many (found-tells k kept.revisions x.events has.0 asked (told_by has.2.0 found) kept.is_open has.1 (sym has.2.1)))
 
-pub last-answered : (x : HallView) (k : Key) (asked : ℕ) → IsKept x k asked → IsAnswered (record { key = k; events = x.events }) → 1 ≤ length (solo (own k x.events)).revisions → HasJob k x.events (Tells asked None) → ⊥
+pub last-answered : (x : HallView) (k : Key) (asked : ℕ) → IsKept x k asked → IsAnswered (record { key = k; events = x.events }) → 1 ≤ length (solo (own k x.events)).revisions → HasJob k x.events (Finds asked None) → ⊥
 last-answered x k asked kept answered some has =
     let many : length (solo (own k x.events)).revisions ≡ length kept.revisions = ap (λ (ps : List Posted). length ps) kept.is_open.posted in
-    answered-told k kept.revisions x.events has.0 asked kept.is_open answered.none has.1 (omega (arith, some, many, kept.counted)) (omega (arith, kept.counted)) (sym has.2)
+    answered-told k kept.revisions x.events has.0 asked kept.is_open answered.none has.1 (omega (arith, some, many, kept.counted)) (omega (arith, kept.counted)) has.2
 
--- there is room behind the revisions of the machine where there is behind those of the rounds
+-- the lines that a hall tells of a revision are those of the machine alone
+pub lines-told : (x : HallView) (k : Key) (asked r : ℕ) (told : Option Told) (lines : List Line) → IsKept x k asked → HasJob k x.events (Tells r told) → lines ≡ option_map_or lines_in (option_map body_of told) [] → lines ≡ proofs_in k x.events r
+lines-told x k asked r told lines kept has e =
+    e ∙ (ap (λ (o : Option ReplyBody). option_map_or lines_in o []) has.2
+    ∙ ap (λ (t : KeyedJob). option_map_or lines_in (replies.body_of r t.state) []) (found-is k kept.revisions x.events has.0 kept.is_open has.1))
+
+-- there is room after the revisions of the machine where there is after those of the rounds
 pub room-behind : (i : InquiryView) (ask : Terms) (rounds : List Round) (r : Posted) → IsInquiry i.key ask rounds i.events → MayAsk (revisions_in rounds) r → MayAsk (machine i).revisions r
 room-behind i ask rounds r is may = subst (λ (ps : List Posted). MayAsk ps r) (sym (inquiry-is_open i.key ask rounds i.events is).posted) may
 
--- a revision that was posted, and turns behind it
+-- a revision that was posted, and turns after it
 pub record GoesOn (i j l : InquiryView) (r : Posted) : Type 0 where
   pub posted_key : j.key ≡ i.key
   pub key : l.key ≡ j.key
@@ -154,7 +166,7 @@ asked-round i j l r told goes answered tells ask rounds is = round-asked i.key a
         subst (λ (k : Key). replies.body_of (suc (length rounds)) (solo (own k l.events)) ≡ Some told) (goes.key ∙ goes.posted_key)
         (subst (λ (n : ℕ). replies.body_of n (machine l) ≡ Some told) (last-number i j l r ask rounds goes is) tells)
 
--- why a hall refuses is want of memory
+-- why a hall refuses is out of memory
 pub opening-wanted : (workers : ℕ) (past : List Event) (k : Key) (ask : Terms) (fault : OpenFault) (history : List Event) → past ≡ [] → HasCalled workers past (Opens k ask) (Err fault) history → false ≡ wanted (Opens k ask) (Err fault) → ⊥
 opening-wanted workers past k ask fault history none called other =
     let may : IsOpening [] k ask (Err fault) called.events = subst (λ (h : List Event). IsOpening h k ask (Err fault) called.events) none called.call in
@@ -178,6 +190,6 @@ pub answered-on : {E : Type 0} (result : Result (Unit {0}) E) (x : HallView) (k 
 answered-on (Ok done) x k asked kept end none = kept-answered x k asked kept end none
 answered-on (Err e) x k asked kept end none = tt
 
-pub asked-on : {E : Type 0} (result : Result Told E) (i j l : InquiryView) (r : Posted) → GoesOn i j l r → IsAnswered l → IfOk result (λ told. TellsLast l (body_of told)) → (ask : Terms) (rounds : List Round) → IsInquiry i.key ask rounds i.events → IfOk result (λ told. HasAsked i.key ask rounds (record { revision = r; told = body_of told }) l.events)
-asked-on (Ok told) i j l r goes answered tells ask rounds is = asked-round i j l r (body_of told) goes answered tells ask rounds is
-asked-on (Err e) i j l r goes answered tells ask rounds is = tt
+pub asked-on : {E : Type 0} (result : Result Finding E) (i j l : InquiryView) (r : Posted) → GoesOn i j l r → IsAnswered l → IfOk result (λ found. IsLast l found) → (ask : Terms) (rounds : List Round) → IsInquiry i.key ask rounds i.events → IfOk result (λ found. HasFound i.key ask rounds r found l.events)
+asked-on (Ok found) i j l r goes answered last ask rounds is = (last.0, asked-round i j l r (told_by last.0 found) goes answered last.1 ask rounds is)
+asked-on (Err e) i j l r goes answered last ask rounds is = tt

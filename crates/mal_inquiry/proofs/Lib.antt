@@ -1,2 +1,3 @@
 -- what this crate alone cites
 mod InquiryLemmas
+mod SearchLemmas

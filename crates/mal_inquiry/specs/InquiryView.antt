@@ -1,5 +1,9 @@
 use Rattle.std.specs.Prelude.{◌≡◌, ◌⊎◌, ℕ, ◌+◌, List, [], ◌∷◌, ◌++◌, length, Some}
+use Rattle.mal_base.specs.Asks.{Terms}
+use Rattle.mal_base.specs.NumberedClause.{Line}
 use Rattle.mal_hall.specs.HallView.{HallView}
+use Rattle.mal_job.specs.Findings.{told_by}
+use Rattle.mal_job.specs.declared.finding.Finding.{Finding}
 use Rattle.mal_revision.specs.Posted.{Posted}
 use Rattle.spec_report.specs.Replies.{ReplyBody}
 use Rattle.spec_job.specs.KeyedJob.{Key}
@@ -11,6 +15,8 @@ use Rattle.spec_hall.specs.Legal.{Allowed}
 use Rattle.spec_hall.specs.Own.{own}
 use Rattle.spec_hall.specs.States.{leases, lives, states}
 use Rattle.spec_run.specs.Posting.{IsOpen}
+use Rattle.spec_inquiry.specs.Asking.{HasAsked}
+use Rattle.spec_inquiry.specs.Rounds.{Round}
 
 -- an inquiry as contracts see it: the key of its job, and the events of its hall
 pub record InquiryView : Type 0 where
@@ -52,3 +58,12 @@ pub record IsAnswered (i : InquiryView) : Type 0 where
 -- this is told of the last revision
 abbrev pub TellsLast : InquiryView → ReplyBody → Type 0
 TellsLast i told = body_of (length (machine i).revisions) (machine i) ≡ Some told
+
+-- and this is found of it
+abbrev pub IsLast : InquiryView → Finding → Type 0
+IsLast i found = (lines : List Line) × TellsLast i (told_by lines found)
+
+-- one question more was asked after rounds, and this is found of it
+abbrev pub HasFound : Key → Terms → List Round → Posted → Finding → List Event → Type 0
+HasFound k ask rounds revision found history =
+    (lines : List Line) × HasAsked k ask rounds (record { revision = revision; told = told_by lines found }) history

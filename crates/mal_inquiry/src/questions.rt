@@ -38,7 +38,7 @@ pub fn copied(alloc: Global, clauses: &ClauseList) -> Result<ClauseList, AllocEr
     Ok(copy)
 }
 
-/// Puts the clause at a place behind others.
+/// Puts the clause at a place after others.
 fn push_copy(copy: &mut ClauseList, clauses: &ClauseList, place: usize) -> Result<(), AllocError>
     requires { place < length clauses.now }
     ensures { OnOk result (copy.new ≡ copy.old ++ get_or clauses.now place None ∷ []) }

@@ -27,7 +27,7 @@ on_line_ok line (Err d) x e = absurd (cc)
 abbrev formula_read : Formulated → Result Formulated (ℕ × BlockFault)
 formula_read f = Ok f
 
--- literals behind which only such lines stand as are passed over
+-- literals after which only such lines stand as are passed over
 pub passed-end : (lits : List ℕ) (line : ℕ) (rows : List (List (List ℕ))) → list_all is_passed rows ≡ true → ended lits line rows ≡ Ok lits
 passed-end lits line [] h = refl
 passed-end lits line (row ∷ rows) h =

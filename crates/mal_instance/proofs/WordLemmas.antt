@@ -22,7 +22,7 @@ lits_read lits = Ok lits
 
 -- ---- what is read is said
 
--- what is known of literals that are read, of words behind other literals
+-- what is known of literals that are read, of words after other literals
 record Reads (v : ℕ) (words : List (List ℕ)) (lits : List ℕ) (above : Bool) (all : List ℕ) : Type 0 where
   more : List ℕ
   whole : lits ++ more ≡ all

@@ -8,7 +8,7 @@ use Rattle.mal_instance.specs.Reading.{Instance, Fault, LitsReading, wrong, at_m
 use Rattle.mal_instance.specs.Reading.Fault.{NoLine, InFormula, TooMany}
 use Rattle.mal_instance.specs.FaultLines.{fault_line}
 
--- two assumptions at most, behind the word `a`
+-- two assumptions at most, after the word `a`
 abbrev pub two : LitsReading
 two f words = wrong (assumptions_in f.variables words) >>= at_most 2
 

@@ -18,19 +18,19 @@ use Rattle.mal_instance.specs.declared.fault.LitsError.{LitsError}
 use Rattle.mal_instance.specs.declared.fault.LitsError.TheVariants as lits
 use Rattle.mal_instance.specs.declared.opened as code
 
--- the fault of a formula with its line, none for want of memory
+-- the fault of a formula with its line, none when out of memory
 abbrev pub located_of : DimacsFault → Option (ℕ × BlockFault)
 located_of (located.Fault line fault) = Some (line, fault)
 located_of located.OutOfMemory = None
 
--- the fault of a text, none for want of memory
+-- the fault of a text, none when out of memory
 abbrev pub fault_of : InputFault → Option Fault
 fault_of input.NoLine = Some NoLine
 fault_of (input.Formula line fault) = Some (InFormula line fault)
 fault_of (input.TooMany line) = Some (TooMany line)
 fault_of input.OutOfMemory = None
 
--- the fault of a line of literals, none for want of memory
+-- the fault of a line of literals, none when out of memory
 abbrev pub lits_fault_of : LitsError → Option LitsFault
 lits_fault_of (lits.Wrong fault) = Some (Wrong fault)
 lits_fault_of lits.Exceeds = Some Exceeds

@@ -60,7 +60,7 @@ pub record Opened : Type 0 where
   pub words : List (List ℕ)
   pub rows : List (List (List ℕ))
 
--- the first of these lines, behind so many lines of the formula, is that of the literals
+-- the first of these lines, after so many lines of the formula, is that of the literals
 abbrev pub opened_at : ℕ → List (List (List ℕ)) → Formulated → Result Opened Fault
 opened_at line [] f = Err NoLine
 opened_at line (row ∷ rows) f = Ok (record { formula = f; line = suc line; words = drop 1 row; rows = rows })

@@ -10,7 +10,7 @@ use mal_dimacs::DimacsFault;
 use mal_script::AssumptionFault;
 use std::alloc::AllocError;
 
-/// Why a text is no instance: its first fault, or want of memory.
+/// Why a text is no instance: its first fault, or out of memory.
 #[derive(Clone, Copy, Debug, Drop)]
 pub enum InputFault {
     /// No line begins with the word of the literals.

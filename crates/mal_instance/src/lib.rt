@@ -11,8 +11,8 @@ mod reading;
 mod telling;
 
 pub use fault::{InputFault, LitsError};
-pub use formula::{begins, read_formula};
+pub use formula::read_formula;
 pub use laws::instance_examples;
 pub use opened::Opened;
-pub use reading::{ended, has_line, read_opening};
+pub use reading::{ended, read_opening};
 pub use telling::fault_line;

@@ -10,8 +10,8 @@ use mal_script::line_fault_line;
 use mal_text::{end_line, put_decimal, put_word};
 use std::alloc::{AllocError, Global};
 
-/// The line that tells a fault of a text, as `fault: no MISSING`, `fault: formula line 3 Range` or `fault: formula line 3
-/// Limit LIMIT`, with its line end. None exactly for want of memory.
+/// The line that tells a fault of a text, as `fault: no MISSING`, `fault: formula line 3 Range` or `fault: formula line
+/// 3 Limit LIMIT`, with its line end. None exactly when out of memory.
 pub fn fault_line(
     alloc: Global,
     missing: &[u8],

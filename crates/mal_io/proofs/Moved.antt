@@ -1,4 +1,4 @@
--- Texts that are put one behind the other.
+-- Texts that are put one after the other.
 use Rattle.std.proofs.Common.{◌≡◌, ◌≤◌, ℕ, Bool, true, false, List, [], ◌++◌, inl, inr, ⊎_elim, true≢false, refl, sym, ap, ◌∙◌, subst, append_assoc, append-nil, le_trans, arith}
 use Rattle.std.specs.Prelude.{Option}
 use Rattle.std.specs.Io.KnownBytes.{Appends}
@@ -6,7 +6,7 @@ use Rattle.std.proofs.KnownBytes.{Appends-nil, Appends-trans}
 use Rattle.mal_io.specs.Moves.{Rose, GotPrefix}
 use Rattle.mal_io.specs.Pieces.{Waiting, Moves, Puts}
 
--- what is left of a text waits behind what was handed on, and so does another text
+-- what is left of a text waits after what was handed on, and so does another text
 more : (got mid now : Option (List ℕ)) (before between rest text other : List ℕ) → Moves got mid before text between → Moves mid now between other rest → Moves got now before (text ++ other) rest
 more got mid now before between rest text other m n = (
   m.0 ++ n.0,
@@ -15,7 +15,7 @@ more got mid now before between rest text other m n = (
       ∙ append_assoc m.0 between other ∙ ap (λ (bytes : List ℕ). m.0 ++ bytes) n.2 ∙ sym (append_assoc m.0 n.0 rest),
 )
 
--- a sink that has failed has got a prefix of the text with any other behind it
+-- a sink that has failed has got a prefix of the text with any other after it
 kept : (got mid now : Option (List ℕ)) (before rest text other : List ℕ) → Moves got mid before text rest → Appends mid now [] → Moves got now before (text ++ other) (rest ++ other)
 kept got mid now before rest text other m still = (
   m.0,
@@ -29,7 +29,7 @@ rose-later a b c r l = le_trans r l
 later-rose : (a b c : ℕ) → a ≤ b → Rose b c → Rose a c
 later-rose a b c l r = omega arith
 
--- a text behind a text
+-- a text after a text
 pub puts-more : {A : Type 0} {got : A → Option (List ℕ)} {faults : A → ℕ} {sink mid now : A} {before between after : Waiting} {text other : List ℕ} → Puts got faults sink mid before between text → Puts got faults mid now between after other → Puts got faults sink now before after (text ++ other)
 puts-more {A} {got} {faults} {sink} {mid} {now} {before} {between} {after} {text} {other} p q = record {
   whole = λ calm. let y = q.whole calm in let x = p.whole y.0 in (x.0, more (got sink) (got mid) (got now) before.bytes between.bytes after.bytes text other x.1 y.1);
@@ -72,7 +72,7 @@ puts-failed got faults sink before after text was is = record {
   counted = λ calm. refl;
 }
 
--- a text waits behind what waited
+-- a text waits after what waited
 pub puts-kept : {A : Type 0} (got : A → Option (List ℕ)) (faults : A → ℕ) (sink : A) (before after : Waiting) (text : List ℕ) → after.bytes ≡ before.bytes ++ text → after.failed ≡ before.failed → Puts got faults sink sink before after text
 puts-kept got faults sink before after text bytes same = record {
   whole = λ calm. (sym same ∙ calm, ([], Appends-nil (got sink), sym bytes));

@@ -8,11 +8,11 @@ pub record Waiting : Type 0 where
   pub bytes : List ℕ
   pub failed : Bool
 
--- of the bytes that waited, with a text behind them, a sink got a prefix, and the rest is left
+-- of the bytes that waited, with a text after them, a sink got a prefix, and the rest is left
 abbrev pub Moves : Option (List ℕ) → Option (List ℕ) → List ℕ → List ℕ → List ℕ → Type 0
 Moves got got_now waiting text rest = (sent : List ℕ) × Appends got got_now sent × (waiting ++ text ≡ sent ++ rest)
 
--- a text was put behind the bytes that wait for a sink: where the sink has not failed, what is left waits; a sink that
+-- a text was put after the bytes that wait for a sink: where the sink has not failed, what is left waits; a sink that
 -- has failed gets nothing more; and it fails only where its count of faults rises
 pub record Puts {A : Type 0} (got : A → Option (List ℕ)) (faults : A → ℕ) (sink sink_now : A) (before now : Waiting) (text : List ℕ) : Type 0 where
   pub whole : now.failed ≡ false → (before.failed ≡ false) × Moves (got sink) (got sink_now) before.bytes text now.bytes

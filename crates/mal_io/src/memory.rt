@@ -200,7 +200,7 @@ fn is_full(room: usize, bytes: &[u8]) -> bool
     room == 0 && !bytes.is_empty()
 }
 
-/// Puts these bytes behind the others, for which there is room. Takes no memory.
+/// Puts these bytes after the others, for which there is room. Takes no memory.
 fn push_all(bytes: &mut Vec<u8>, front: &[u8])
     requires { vec_len bytes.old + length front.now ≤ vec_capacity bytes.old }
     ensures items { bytes.new.items ≡ bytes.old.items ++ front.now }

@@ -43,7 +43,7 @@ impl Pieces {
         }
     }
 
-    /// Puts bytes behind those that wait, and hands on what waits where it gets too much.
+    /// Puts bytes after those that wait, and hands on what waits where it gets too much.
     pub fn put<K: Sink>(&mut self, sink: &mut K, bytes: &[u8])
         ensures { Puts K.got K.faults sink.old sink.new self.old self.new bytes.now }
     {
@@ -94,7 +94,7 @@ impl Pieces {
         self.failed = handed(self.failed, sink, bytes);
     }
 
-    /// Puts bytes behind those that wait, for which there is room.
+    /// Puts bytes after those that wait, for which there is room.
     fn keep(&mut self, bytes: &[u8])
         requires { length self.old.bytes + length bytes.now ≤ 16384 }
         ensures bytes { self.new.bytes ≡ self.old.bytes ++ bytes.now }

@@ -1,17 +1,15 @@
 -- An exchange moves the marks of the first places, and tells what these export.
-use Rattle.std.proofs.Common.{◌≡◌, ℕ, zero, suc, ◌+◌, ◌-◌, ◌<◌, ◌≤◌, min, Bool, true, false, cond, ◌&&◌, List, [], ◌∷◌, ◌++◌, length, map, take, replicate, refl, sym, ◌∙◌, ap, arith}
+use Rattle.std.proofs.Common.{◌≡◌, ℕ, zero, suc, ◌+◌, ◌-◌, ◌<◌, ◌≤◌, Bool, true, false, cond, ◌&&◌, List, [], ◌∷◌, ◌++◌, length, map, take, replicate, refl, sym, ◌∙◌, ap, arith}
 use Rattle.std.specs.Prelude.{is_none}
 use Rattle.std.proofs.lemmas.Bool.{lt-ltb, le-ltb}
-use Rattle.std.proofs.lemmas.List.{length-take, length-map}
+use Rattle.std.proofs.lemmas.List.{length-take-le, length-map}
+use Rattle.mal_base.specs.declared.profile.Profile.{Profile}
 use Rattle.mal_base.specs.NumberedClause.{NumberedClause, Line}
-use Rattle.spec_exchange.specs.Exchange.{broadcast, entries_of, prefix, most_literals}
-use Rattle.spec_exchange.proofs.PrefixLemmas.{cuts-early}
-use Rattle.spec_exchange.proofs.UnionLemmas.{order-free}
 use Rattle.spec_job.specs.SoloMachine.{NodeSlot, vacant, exports_of, takes_part, exports_from, marked_from}
 use Rattle.spec_job.specs.Journaled.{Journaled}
 use Rattle.mal_job.specs.Viewed.{PlaceView, place_of, places_of, starts_of}
 use Rattle.mal_job.specs.Placing.{AreOwn}
-use Rattle.mal_job.specs.Exports.{exports_at, broadcasts_from, marked_at, marked}
+use Rattle.mal_job.specs.Exports.{marked_at, marked}
 
 -- no place from the volume on takes part
 beyond-part : (v k : ℕ) (p : NodeSlot) → v ≤ k → takes_part v k p ≡ false
@@ -79,38 +77,20 @@ starts-front (suc n) mark (p ∷ ps) =
 pub starts-marked : (n mark : ℕ) (ps : List PlaceView) → starts_of (marked n mark ps) ≡ starts_of ps
 starts-marked n mark ps = ap (λ (xs : List ℕ). xs ++ replicate (64 - length (marked n mark ps)) 0) (starts-front n mark ps) ∙ ap (λ (k : ℕ). map (λ (p : PlaceView). p.journal.start) ps ++ replicate (64 - k) 0) (length-marked n mark ps)
 
-pub own-marked : (number profile k n mark : ℕ) (ps : List PlaceView) → AreOwn number profile k ps → AreOwn number profile k (marked n mark ps)
+pub own-marked : (number : ℕ) (profile : Profile) (k n mark : ℕ) (ps : List PlaceView) → AreOwn number profile k ps → AreOwn number profile k (marked n mark ps)
 own-marked number profile k zero mark ps all = all
 own-marked number profile k (suc n) mark [] all = all
 own-marked number profile k (suc n) mark (p ∷ ps) all =
     let same : (marked_at mark p).journal ≡ p.journal = marked-start mark p in
     (ap (λ (j : Journaled). j.job) same ∙ all.0, ap (λ (j : Journaled). j.index) same ∙ all.1, ap (λ (j : Journaled). j.profile) same ∙ all.2, own-marked number profile (k + 1) n mark ps all.3)
 
--- what is told of each place for itself, and then of all
-front-exports : (v left k : ℕ) (log : List Line) (ps : List PlaceView) (rest : List NodeSlot) → k + left ≡ v → left ≤ length ps → broadcast (entries_of (broadcasts_from log k (take left ps))) ≡ broadcast (exports_from v log k (map place_of ps ++ rest))
-front-exports v zero k log ps rest e low = ap broadcast (sym (beyond-exports v log k (map place_of ps ++ rest) (omega arith)))
+-- what the first places export
+front-exports : (v left k : ℕ) (log : List Line) (ps : List PlaceView) (rest : List NodeSlot) → k + left ≡ v → left ≤ length ps → exports_from v log k (map place_of (take left ps)) ≡ exports_from v log k (map place_of ps ++ rest)
+front-exports v zero k log ps rest e low = sym (beyond-exports v log k (map place_of ps ++ rest) (omega arith))
 front-exports v (suc left) k log [] rest e low = absurd (omega arith)
-front-exports v (suc left) k log (p ∷ ps) rest e low =
-    joined (exports_at log k p) (entries_of (broadcasts_from log (k + 1) (take left ps))) (exports_from v log (k + 1) (map place_of ps ++ rest)) (front-exports v left (k + 1) log ps rest (omega arith) (omega arith))
-    ∙ ap (λ (b : Bool). broadcast (cond b (exports_of log k (place_of p)) [] ++ exports_from v log (k + 1) (map place_of ps ++ rest))) (sym (below-part v k p (omega arith)))
-  where
-    swap : (xs ys : List NumberedClause) → broadcast (xs ++ ys) ≡ broadcast (ys ++ xs)
-    swap xs ys = ap (prefix most_literals) (order-free xs ys)
+front-exports v (suc left) k log (p ∷ ps) rest e low = ap (λ (es : List NumberedClause). cond (takes_part v k (place_of p)) (exports_of log k (place_of p)) [] ++ es) (front-exports v left (k + 1) log ps rest (omega arith) (omega arith))
 
-    joined : (xs ys zs : List NumberedClause) → broadcast ys ≡ broadcast zs → broadcast (broadcast xs ++ ys) ≡ broadcast (xs ++ zs)
-    joined xs ys zs same = cuts-early most_literals xs ys ∙ (swap xs ys ∙ (sym (cuts-early most_literals ys xs) ∙ (ap (λ (us : List NumberedClause). broadcast (us ++ xs)) same ∙ (cuts-early most_literals zs xs ∙ swap zs xs))))
-
--- what is told
-pub told-is : (v : ℕ) (log : List Line) (ps : List PlaceView) → v ≤ length ps → broadcast (entries_of (broadcasts_from log 0 (take v ps))) ≡ broadcast (exports_from v log 0 (places_of ps))
-told-is v log ps low = front-exports v v 0 log ps (replicate (64 - length (map place_of ps)) vacant) (omega arith) low
-
--- as many are told as there are nodes
-told-length : (log : List Line) (k : ℕ) (hs : List PlaceView) → length (broadcasts_from log k hs) ≡ length hs
-told-length log k [] = refl
-told-length log k (h ∷ hs) = ap (λ (n : ℕ). suc n) (told-length log (k + 1) hs)
-
-pub told-few : (log : List Line) (v : ℕ) (hs : List PlaceView) (us : List (List NumberedClause)) → us ≡ broadcasts_from log 0 (take v hs) → v ≤ 64 → length us ≤ 64
-told-few log v hs us e low =
-    let same : length us ≡ length (take v hs) = ap (λ (xs : List (List NumberedClause)). length xs) e ∙ told-length log 0 (take v hs) in
-    let short : length (take v hs) ≡ min v (length hs) = length-take v hs in
-    omega arith
+pub exports-are : (v : ℕ) (log : List Line) (ps : List PlaceView) → v ≤ length ps → exports_from (length (take v ps)) log 0 (map place_of (take v ps)) ≡ exports_from v log 0 (places_of ps)
+exports-are v log ps low =
+    ap (λ (n : ℕ). exports_from n log 0 (map place_of (take v ps))) (length-take-le v ps low)
+    ∙ front-exports v v 0 log ps (replicate (64 - length (map place_of ps)) vacant) (omega arith) low

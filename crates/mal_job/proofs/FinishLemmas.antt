@@ -1,6 +1,8 @@
 -- A start that is out ends.
 use Rattle.std.proofs.Common.{◌≡◌, ℕ, ◌+◌, ◌<◌, ◌≤◌, ◌^◌, true, List, [], ◌∷◌, ◌++◌, length, Option, Some, None, Bool, false, cond, not, ◌&&◌, refl, sym, ◌∙◌, ap, subst, arith, length-append}
 use Rattle.std.specs.Prelude.{is_some, slice_set}
+use Rattle.mal_base.specs.declared.profile.Profile.{Profile}
+use Rattle.mal_base.specs.declared.profile.Profile.TheVariants.{Plain}
 use Rattle.mal_base.specs.Asks.{Terms}
 use Rattle.mal_base.specs.NumberedClause.{Line}
 use Rattle.mal_base.specs.declared.answer.Answer.{Answer}
@@ -17,7 +19,7 @@ use Rattle.spec_job.specs.Journal.{JournalEntry, Run, replay}
 use Rattle.spec_job.specs.Journaled.{Journaled, replayed, node_of, and_entries}
 use Rattle.spec_job.specs.Leased.{Finished, HasRun, model_with}
 use Rattle.spec_job.specs.Models.{clauses_of}
-use Rattle.spec_job.specs.SoloMachine.{Own, Opened, NodeSlot, Lease, Slice, SoloMachine, solo, solo_step, place_at, vacant, is_late, remembered, first_empty, settled_by}
+use Rattle.spec_job.specs.SoloMachine.{Opened, NodeSlot, Lease, Slice, SoloMachine, solo, solo_step, place_at, vacant, is_late, remembered, first_empty}
 use Rattle.spec_job.specs.SoloMachine as own
 use Rattle.spec_job.proofs.StepLemmas.{finish-keeps}
 use Rattle.spec_job.specs.Viewed.{IsBack, IsGrownBy, and_own}
@@ -62,7 +64,7 @@ back-ran p d o b = subst (λ (x : Outcome). IsGrownBy x b.lease.adds p.journal d
 pub back-starved : (p : PlaceView) (d : Finished) → d.outcome ≡ Starved → IsBackAt p d → d.journal ≡ p.journal
 back-starved p d o b = subst (λ (x : Outcome). IsGrownBy x b.lease.adds p.journal d.journal) o b.journal
 
--- a start is out that may end as one that wanted for memory, and what is kept of its node is of its place
+-- a start is out that may end as one that ran out of memory, and what is kept of its node is of its place
 pub starve-out : (tenant job : List ℕ) (q : Parts) (i : ℕ) (kept : Option Kept) → MayStarve (viewed tenant job q) i kept → is_some (placed q.tree i).out ≡ true
 starve-out tenant job q i kept m = ap (λ (o : Option Lease). is_some o) (sym (out-same q.tree.places i 0 0)) ∙ m.out
 
@@ -116,7 +118,7 @@ module _ (q : Parts) (i : ℕ) (k : JobInvariant q) (is_out : is_some (placed q.
   machine-out = out-same q.tree.places i 0 0 ∙ out
 
   pub here : place_at s i ≡ place_of p
-  here = placed-at q.tree.places i (fresh_place 0 1 0) low
+  here = placed-at q.tree.places i (fresh_place 0 Plain 0) low
 
   -- the revision of the start is posted
   pub live : length q.asked.answers ≤ revision_of p.out → length q.asked.answers < length q.asked.revisions
@@ -146,11 +148,11 @@ module _ (q : Parts) (i : ℕ) (k : JobInvariant q) (is_out : is_some (placed q.
   -- what came back is the replay
   pub replay-is : (d : Finished) → d.journal ≡ and_entries p.journal (adds_of p.out) → replayed d.journal ≡ x
   replay-is d e =
-      let mine = own-at q.tree.number q.tree.profile q.tree.places 0 i (fresh_place 0 1 0) low k.tree.own in
+      let mine = own-at q.tree.number q.tree.profile q.tree.places 0 i (fresh_place 0 Plain 0) low k.tree.own in
       let own-index : p.journal.index ≡ i = mine.1 ∙ omega arith in
       let own-profile : p.journal.profile ≡ s.ask.profile = mine.2 ∙ k.solvers in
       ap (λ (j : Journaled). replayed j) (e ∙ ap (λ (o : Option Lease). and_entries p.journal (adds_of o)) out)
-      ∙ (ap (λ (m : ℕ). replay m p.journal.index (p.journal.entries ++ l.adds)) own-profile ∙ ap (λ (n : ℕ). replay s.ask.profile n (p.journal.entries ++ l.adds)) own-index)
+      ∙ (ap (λ (m : Profile). replay m p.journal.index (p.journal.entries ++ l.adds)) own-profile ∙ ap (λ (n : ℕ). replay s.ask.profile n (p.journal.entries ++ l.adds)) own-index)
 
   pub lines-is : (d : Finished) → d.journal ≡ and_entries p.journal (adds_of p.out) → HasRun d → d.lines ≡ x.lines
   lines-is d e h = h.lines ∙ ap (λ (y : Sliced). y.lines) (replay-is d e)
@@ -249,7 +251,7 @@ module _ (q : Parts) (i : ℕ) (k : JobInvariant q) (is_out : is_some (placed q.
     same = ap (λ (y : QuestionsView). let z : Parts = record { asked = y; tree = tree; log = log } in z) asked-is ∙ (ap (λ (y : TreeView). let z : Parts = record { asked = (after_run log.chunk_room).asked; tree = y; log = log } in z) t ∙ ap (λ (y : LogView). let z : Parts = record { asked = (after_run log.chunk_room).asked; tree = one_more_ran (with_placed q.tree i (ran_home p)); log = y } in z) log-is)
 
     ran-view : (tenant job : List ℕ) → viewed tenant job r ≡ and_own (viewed tenant job q) (own.Finished i Ran)
-    ran-view tenant job = ap (λ (y : Parts). viewed tenant job y) same ∙ view-same tenant job q.tree.number q.tree.number (state_of (after_run log.chunk_room)) (solo_step s (own.Finished i Ran)) (starts_of (slice_set q.tree.places i (ran_home p))) (starts_of q.tree.places) refl (sym (run-step log.chunk_room)) (starts-same q.tree.places i (fresh_place 0 1 0) (ran_home p) low refl)
+    ran-view tenant job = ap (λ (y : Parts). viewed tenant job y) same ∙ view-same tenant job q.tree.number q.tree.number (state_of (after_run log.chunk_room)) (solo_step s (own.Finished i Ran)) (starts_of (slice_set q.tree.places i (ran_home p))) (starts_of q.tree.places) refl (sym (run-step log.chunk_room)) (starts-same q.tree.places i (fresh_place 0 Plain 0) (ran_home p) low refl)
 
     ran-kept : IsAsked asked → IsTree tree → JobInvariant r
     ran-kept ha ht =
@@ -280,7 +282,7 @@ module _ (q : Parts) (i : ℕ) (k : JobInvariant q) (is_out : is_some (placed q.
     home-state = step ∙ ap (λ (y : TreeView). state_of (record { asked = asked; tree = y; log = q.log })) (sym t)
 
     home-view : (tenant job : List ℕ) → viewed tenant job home ≡ and_own (viewed tenant job q) (own.Finished i o)
-    home-view tenant job = view-same tenant job tree.number q.tree.number (state_of home) (solo_step s (own.Finished i o)) (starts_of tree.places) (starts_of q.tree.places) (ap (λ (y : TreeView). y.number) t) (sym home-state) (ap (λ (y : TreeView). starts_of y.places) t ∙ starts-same q.tree.places i (fresh_place 0 1 0) (came_home p) low refl)
+    home-view tenant job = view-same tenant job tree.number q.tree.number (state_of home) (solo_step s (own.Finished i o)) (starts_of tree.places) (starts_of q.tree.places) (ap (λ (y : TreeView). y.number) t) (sym home-state) (ap (λ (y : TreeView). starts_of y.places) t ∙ starts-same q.tree.places i (fresh_place 0 Plain 0) (came_home p) low refl)
 
     home-kept : IsAsked asked → IsTree tree → JobInvariant home
     home-kept ha ht =

@@ -20,7 +20,7 @@ use Rattle.spec_job.proofs.StayLemmas.{settled-stays, answers-stay}
 use Rattle.mal_job.specs.Asking.{answer_by, answer_with}
 use Rattle.mal_job.specs.Finishing.{MayFollow, slice_out, answer_of}
 
--- what stands behind a front
+-- what stands after a front
 get-behind : {X : Type 0} (xs more : List X) (y : X) → slice_get ((xs ++ y ∷ []) ++ more) (length xs) ≡ Some y
 get-behind [] more y = refl
 get-behind (x ∷ xs) more y = get-behind xs more y

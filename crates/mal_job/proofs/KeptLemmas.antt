@@ -1,10 +1,11 @@
 -- What a job keeps, after each event of its own.
-use Rattle.std.proofs.Common.{◌≡◌, ℕ, ◌+◌, ◌*◌, ◌<◌, ◌≤◌, ◌^◌, Bool, true, false, ◌||◌, cond, List, [], ◌∷◌, ◌++◌, length, fold, get_or, Option, Some, None, refl, sym, ◌∙◌, ap, arith, subst}
+use Rattle.std.proofs.Common.{◌≡◌, ℕ, ◌+◌, ◌*◌, ◌<◌, ◌≤◌, Bool, true, false, ◌||◌, cond, List, [], ◌∷◌, ◌++◌, length, fold, get_or, Option, Some, None, refl, sym, ◌∙◌, ap, arith, subst}
 use Rattle.std.specs.Prelude.{All, Result, Ok, Err, OnOk, OnErr, slice_set, is_some}
 use Rattle.std.specs.List.{list_any}
 use Rattle.std.proofs.lemmas.Bool.{or_parts}
 use Rattle.std.proofs.lemmas.Nat.{mul-le}
 use Rattle.std.proofs.lemmas.List.Folds.{list_any-append}
+use Rattle.mal_base.specs.Limits.{limits}
 use Rattle.mal_base.specs.Asks.{Terms, Weighed, reasked}
 use Rattle.mal_base.specs.Clauses.{rises}
 use Rattle.mal_base.specs.NumberedClause.{Line}
@@ -77,12 +78,12 @@ own-slices : (s : SoloMachine) (k : IsOwn s) → s.ask.slices ≡ k.ask.slices
 own-slices s k = ap (λ (x : SoloMachine). x.ask.slices) k.is ∙ fold-slices (solo (Opened k.ask ∷ [])) k.own k.once.once
 
 -- the slices that were run, and those that are out, are few
-pub few-runs : (q : Parts) → IsOwn (state_of q) → IsAsked q.asked → runs_of (places_of q.tree.places) + starts_out (places_of q.tree.places) ≤ 1052672
+pub few-runs : (q : Parts) → IsOwn (state_of q) → IsAsked q.asked → runs_of (places_of q.tree.places) + starts_out (places_of q.tree.places) ≤ (limits.revisions + 1) * limits.slices
 few-runs q k h =
     let few : runs_of (places_of q.tree.places) + starts_out (places_of q.tree.places) ≤ (length q.asked.answers + 1) * k.ask.slices = subst (λ (x : SoloMachine). runs_of x.places + starts_out x.places ≤ (length x.answers + 1) * k.ask.slices) (sym k.is) (runs-are_few k.ask k.own k.once) in
     let same : q.asked.ask.slices ≡ k.ask.slices = own-slices (state_of q) k in
-    let short : k.ask.slices ≤ 4096 = omega (arith, same, h.few_slices) in
-    let most : (length q.asked.answers + 1) * k.ask.slices ≤ 257 * 4096 = mul-le (length q.asked.answers + 1) k.ask.slices 257 4096 (omega (arith, h.order, h.few)) short in
+    let short : k.ask.slices ≤ limits.slices = omega (arith, same, h.few_slices) in
+    let most : (length q.asked.answers + 1) * k.ask.slices ≤ (limits.revisions + 1) * limits.slices = mul-le (length q.asked.answers + 1) k.ask.slices (limits.revisions + 1) limits.slices (omega (arith, h.order, h.few)) short in
     omega arith
 
 -- a job that was just opened
@@ -133,7 +134,7 @@ kept-volume q t v e h k = record {
 pub revised-state : (q : Parts) (r : Posted) → solo_step (state_of q) (Revised r) ≡ state_of (record q { asked = settled_with (first_empty q.log.lines) (and_revision q.asked r) })
 revised-state q r = settled-by_state (first_empty q.log.lines) (record q { asked = and_revision q.asked r })
 
-pub kept-revised : {T E : Type 0} (result : Result T E) (q : Parts) (asked : QuestionsView) (r : Posted) (goal : Option ℕ) → is_posted r ≡ true → clauses_in q.asked.revisions + length r.clauses ≤ 2 ^ 20 → goal ≡ first_empty q.log.lines → OnOk result (asked ≡ settled_with goal (and_revision q.asked r)) → OnErr result (asked ≡ q.asked) → IsAsked asked → JobInvariant q → JobInvariant (record q { asked = asked })
+pub kept-revised : {T E : Type 0} (result : Result T E) (q : Parts) (asked : QuestionsView) (r : Posted) (goal : Option ℕ) → is_posted r ≡ true → clauses_in q.asked.revisions + length r.clauses ≤ limits.clauses → goal ≡ first_empty q.log.lines → OnOk result (asked ≡ settled_with goal (and_revision q.asked r)) → OnErr result (asked ≡ q.asked) → IsAsked asked → JobInvariant q → JobInvariant (record q { asked = asked })
 kept-revised (Ok v) q asked r goal posted room g ok err h k =
     let e : asked ≡ settled_with (first_empty q.log.lines) (and_revision q.asked r) = ok ∙ ap (λ (o : Option ℕ). settled_with o (and_revision q.asked r)) g in
     kept-answered q asked (Revised r) (record { posted = posted; room = omega (arith, room) }) refl (revised-state q r ∙ ap (λ (x : QuestionsView). state_of (record q { asked = x })) (sym e)) h k

@@ -3,6 +3,7 @@ use Rattle.std.proofs.Common.{◌≡◌, ℕ, zero, suc, ◌-◌, ◌<◌, ◌�
 use Rattle.std.specs.Prelude.{◌==◌, not, false, true}
 use Rattle.std.specs.Option.{option_map}
 use Rattle.std.proofs.lemmas.Bool.{ne_eqb}
+use Rattle.mal_base.specs.declared.profile.Profile.TheVariants.{Plain}
 use Rattle.mal_base.specs.NumberedClause.{Line}
 use Rattle.mal_proof.specs.Logged.{Part}
 use Rattle.mal_suspend.specs.Entries.{entry_of, slices_of, entries_of}
@@ -54,4 +55,4 @@ journal-fresh tenant job q i k solvers = by_place (le-or_lt (length q.tree.place
         let none : get_or q.tree.places i (fresh_place q.tree.number q.tree.profile i) ≡ fresh_place q.tree.number q.tree.profile i = get-behind q.tree.places i (fresh_place q.tree.number q.tree.profile i) high in
         journal-parts (fresh_place q.tree.number q.tree.profile i).journal q.tree.number q.asked.ask.profile i (get_or (starts_of q.tree.places) i 0) (place_at (state_of q) i).entries refl (sym solvers) refl (starts-behind q.tree.places (64 - length q.tree.places) i high) (ap (λ (p : NodeSlot). p.entries) (placed-behind q.tree.places i high))
         ∙ ap (λ (p : PlaceView). p.journal) (sym none)
-    by_place (inr low) = journal-same tenant job q i low k solvers ∙ ap (λ (p : PlaceView). p.journal) (get-within q.tree.places i (fresh_place 0 1 0) (fresh_place q.tree.number q.tree.profile i) low)
+    by_place (inr low) = journal-same tenant job q i low k solvers ∙ ap (λ (p : PlaceView). p.journal) (get-within q.tree.places i (fresh_place 0 Plain 0) (fresh_place q.tree.number q.tree.profile i) low)

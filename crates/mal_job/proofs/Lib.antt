@@ -4,7 +4,7 @@ pub mod FollowLemmas
 mod Parts
 mod LogLemmas
 mod ToldLemmas
-mod ExportedLemmas
+mod TakenLemmas
 mod ExchangeLemmas
 mod PlaceLemmas
 mod LoadingLemmas
@@ -15,3 +15,4 @@ mod PartLemmas
 mod FinishLemmas
 mod StartLemmas
 mod LentLemmas
+mod FindingLemmas

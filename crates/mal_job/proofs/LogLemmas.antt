@@ -4,6 +4,7 @@ use Rattle.std.specs.Option.{option_map, option_or}
 use Rattle.std.proofs.lemmas.Option.{slice_get-get_or}
 use Rattle.std.proofs.lemmas.Bool.{ne_eqb, eq-eqb}
 use Rattle.mal_base.specs.NumberedClause.{Line}
+use Rattle.spec_job.specs.Proofs.{lits_at}
 use Rattle.spec_job.specs.SoloMachine.{first_empty}
 
 -- a list from a place on
@@ -35,6 +36,25 @@ empty-later log n lits low b long from =
   where
     past : (l : Line) (rest : List Line) → (length l.lits ≡ 0 → ⊥) → first_empty (l ∷ rest) ≡ first_empty rest
     past l rest differs = let no-match : (length l.lits == 0) ≡ false = ne_eqb (length l.lits) 0 differs in rw no-match refl
+
+-- the literals of the line with a number, which stands at a place or later
+pub lits-here : (log : List Line) (n goal id : ℕ) (lits : List ℕ) → n < length log → ((l : Line) → slice_get log n ≡ Some l → id ≡ l.id) → ((l : Line) → slice_get log n ≡ Some l → lits ≡ l.lits) → id ≡ goal → lits_at goal (drop n log) ≡ lits_at goal log → lits ≡ lits_at goal log
+lits-here log n goal id lits low a b e from =
+    let l : Line = get_or log n none in
+    let is : slice_get log n ≡ Some l = slice_get-get_or log n none low in
+    b l is ∙ (sym (first l (drop (suc n) log) (sym (a l is) ∙ e)) ∙ (ap (lits_at goal) (sym (from-place log n none low)) ∙ from))
+  where
+    first : (l : Line) (rest : List Line) → l.id ≡ goal → lits_at goal (l ∷ rest) ≡ l.lits
+    first l rest e = let found : (l.id == goal) ≡ true = eq-eqb l.id goal e in rw found refl
+
+pub lits-later : (log : List Line) (n goal id : ℕ) → n < length log → ((l : Line) → slice_get log n ≡ Some l → id ≡ l.id) → (id ≡ goal → ⊥) → lits_at goal (drop n log) ≡ lits_at goal log → lits_at goal (drop (n + 1) log) ≡ lits_at goal log
+lits-later log n goal id low a differs from =
+    let l : Line = get_or log n none in
+    let is : slice_get log n ≡ Some l = slice_get-get_or log n none low in
+    ap (λ (m : ℕ). lits_at goal (drop m log)) (add-one n) ∙ (sym (past l (drop (suc n) log) (λ e. differs (a l is ∙ e))) ∙ (ap (lits_at goal) (sym (from-place log n none low)) ∙ from))
+  where
+    past : (l : Line) (rest : List Line) → (l.id ≡ goal → ⊥) → lits_at goal (l ∷ rest) ≡ lits_at goal rest
+    past l rest differs = let no-match : (l.id == goal) ≡ false = ne_eqb l.id goal differs in rw no-match refl
 
 -- the first empty line of two logs
 pub first-append : (xs ys : List Line) → option_or (first_empty xs) (first_empty ys) ≡ first_empty (xs ++ ys)

@@ -1,6 +1,8 @@
 -- The parts of a job and its view: the journals of its nodes, and places that are made.
 use Rattle.std.proofs.Common.{◌≡◌, ℕ, zero, suc, ◌-◌, ◌*◌, ◌<◌, ◌≤◌, List, [], ◌∷◌, ◌++◌, length, map, replicate, get_or, refl, sym, ◌∙◌, ap, subst, arith}
 use Rattle.std.specs.Prelude.{Result, Ok, Err, OnOk, OnErr, IfOk, slice_set}
+use Rattle.mal_base.specs.declared.profile.Profile.TheVariants.{Plain}
+use Rattle.mal_base.specs.declared.profile.Profile.{Profile}
 use Rattle.mal_base.specs.NumberedClause.{NumberedClause, Line}
 use Rattle.spec_job.specs.Counts.{runs_of, starts_out}
 use Rattle.spec_job.specs.Journal.{JournalEntry}
@@ -63,13 +65,13 @@ pub starts-same : (ps : List PlaceView) (i : ℕ) (d p : PlaceView) → i < leng
 starts-same ps i d p low e = ap (λ (n : ℕ). map (λ (x : PlaceView). x.journal.start) (slice_set ps i p) ++ replicate (64 - n) 0) (set-length ps i p) ∙ same-front ps (replicate (64 - length ps) 0) i d p low e
 
 -- the journal at an index
-pub journal-parts : (j : Journaled) (job profile index start : ℕ) (entries : List JournalEntry) → job ≡ j.job → profile ≡ j.profile → index ≡ j.index → start ≡ j.start → entries ≡ j.entries → record { job = job; profile = profile; index = index; start = start; entries = entries } ≡ j
+pub journal-parts : (j : Journaled) (job : ℕ) (profile : Profile) (index start : ℕ) (entries : List JournalEntry) → job ≡ j.job → profile ≡ j.profile → index ≡ j.index → start ≡ j.start → entries ≡ j.entries → record { job = job; profile = profile; index = index; start = start; entries = entries } ≡ j
 journal-parts j job profile index start entries a p b c d = rw (a, p, b, c, d) refl
 
 pub journal-same : (tenant job : List ℕ) (q : Parts) (i : ℕ) → i < length q.tree.places → IsTree q.tree → q.tree.profile ≡ q.asked.ask.profile → journal_at (viewed tenant job q) i ≡ (placed q.tree i).journal
 journal-same tenant job q i low k solvers =
-    let own = own-at q.tree.number q.tree.profile q.tree.places 0 i (fresh_place 0 1 0) low k.own in
-    journal-parts (placed q.tree i).journal q.tree.number q.asked.ask.profile i (get_or (starts_of q.tree.places) i 0) (place_at (state_of q) i).entries (sym own.0) (sym (own.2 ∙ solvers)) (sym (own.1 ∙ omega arith)) (starts-front q.tree.places (replicate (64 - length q.tree.places) 0) i (fresh_place 0 1 0) low) (ap (λ (p : NodeSlot). p.entries) (placed-at q.tree.places i (fresh_place 0 1 0) low))
+    let own = own-at q.tree.number q.tree.profile q.tree.places 0 i (fresh_place 0 Plain 0) low k.own in
+    journal-parts (placed q.tree i).journal q.tree.number q.asked.ask.profile i (get_or (starts_of q.tree.places) i 0) (place_at (state_of q) i).entries (sym own.0) (sym (own.2 ∙ solvers)) (sym (own.1 ∙ omega arith)) (starts-front q.tree.places (replicate (64 - length q.tree.places) 0) i (fresh_place 0 Plain 0) low) (ap (λ (p : NodeSlot). p.entries) (placed-at q.tree.places i (fresh_place 0 Plain 0) low))
 
 -- a view of parts
 abbrev pub view_of : List ℕ → List ℕ → ℕ → SoloMachine → List ℕ → JobView

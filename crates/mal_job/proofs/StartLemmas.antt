@@ -1,8 +1,11 @@
 -- A node that may start is handed out, and an exchange.
-use Rattle.std.proofs.Common.{◌≡◌, ℕ, ◌+◌, ◌-◌, ◌<◌, ◌≤◌, true, ◌&&◌, List, [], ◌∷◌, ◌++◌, length, map, take, drop, fold, nat_lt, Option, Some, None, refl, sym, ◌∙◌, ap, subst, arith}
+use Rattle.std.proofs.Common.{◌≡◌, ℕ, ◌+◌, ◌-◌, ◌*◌, ◌<◌, ◌≤◌, true, ◌&&◌, List, [], ◌∷◌, ◌++◌, length, map, take, drop, fold, nat_lt, Option, Some, None, refl, sym, ◌∙◌, ap, subst, arith}
 use Rattle.std.specs.Prelude.{Result, Ok, Err, OnOk, OnErr, IfOk, slice_set, is_none}
 use Rattle.std.proofs.lemmas.Bool.{and_parts}
 use Rattle.std.proofs.lemmas.List.Sums.{fold-append}
+use Rattle.mal_base.specs.declared.profile.Profile.{Profile}
+use Rattle.mal_base.specs.Limits.{limits}
+use Rattle.mal_base.specs.declared.profile.Profile.TheVariants.{Plain}
 use Rattle.mal_base.specs.NumberedClause.{NumberedClause}
 use Rattle.mal_revision.specs.Posted.{Posted}
 use Rattle.spec_exchange.specs.Exchange.{broadcast}
@@ -12,7 +15,7 @@ use Rattle.spec_job.specs.Following.{MayAllFollow}
 use Rattle.spec_job.specs.Journal.{JournalEntry, Load, Import, Run, after_entry, replay, loads_in, loads_of, imports_in}
 use Rattle.spec_job.specs.Journaled.{replayed, started}
 use Rattle.spec_job.specs.Leased.{Leased}
-use Rattle.spec_job.specs.SoloMachine.{Opened, NodeSlot, Lease, SoloMachine, solo, solo_step, place_at, vacant, startable, is_live, clauses_in, missing_loads, missing_imports, exports_from, marked_from}
+use Rattle.spec_job.specs.SoloMachine.{Opened, NodeSlot, Lease, SoloMachine, solo_step, place_at, startable, is_live, clauses_in, missing_loads, missing_imports, exports_from, marked_from}
 use Rattle.spec_job.specs.SoloMachine as own
 use Rattle.spec_job.specs.Viewed.{JobView, IsLeaseOf, and_own, and_start, journal_at}
 use Rattle.spec_job.proofs.CountLemmas.{runs-same, runs-marked}
@@ -74,7 +77,7 @@ module _ (q : Parts) (i : ℕ) (k : JobInvariant q) (may : startable (state_of q
   few = omega (arith, low, k.tree.few)
 
   here : place_at s i ≡ place_of p
-  here = placed-at q.tree.places i (fresh_place 0 1 0) low
+  here = placed-at q.tree.places i (fresh_place 0 Plain 0) low
 
   live : length q.asked.answers < length q.asked.revisions
   live = live-parts s i may
@@ -105,7 +108,7 @@ module _ (q : Parts) (i : ℕ) (k : JobInvariant q) (may : startable (state_of q
 
   low-counts : HasLowCounts (fold after_entry (replay s.ask.profile i p.journal.entries) (missing_loads s (place_of p) ++ missing_imports s (place_of p))).node
   low-counts =
-      let few-all : runs_of (places_of q.tree.places) + starts_out (places_of q.tree.places) ≤ 1052672 = few-runs q k.own k.asked in
+      let few-all : runs_of (places_of q.tree.places) + starts_out (places_of q.tree.places) ≤ (limits.revisions + 1) * limits.slices = few-runs q k.own k.asked in
       let some : runs_in p.journal.entries ≤ runs_of (places_of q.tree.places) = subst (λ (y : NodeSlot). runs_in y.entries ≤ runs_of (places_of q.tree.places)) here (runs-least (places_of q.tree.places) i there) in
       let h : HasCounts (runs_of (places_of q.tree.places)) (runs_in p.journal.entries) (fold after_entry (replay s.ask.profile i p.journal.entries) (missing_loads s (place_of p) ++ missing_imports s (place_of p))).node = subst (λ (y : Sliced). HasCounts (runs_of (places_of q.tree.places)) (runs_in p.journal.entries) y.node) (fold-append after_entry (replay s.ask.profile i []) p.journal.entries (missing_loads s (place_of p) ++ missing_imports s (place_of p))) counted in
       record { conflicts_since_restart = omega (arith, h.conflicts_since_restart, few-all, some); restart_number = omega (arith, h.restart_number, few-all, some); serial = omega (arith, h.serial, few-all); conflicts_since_dropping = omega (arith, h.conflicts_since_dropping, few-all, some) }
@@ -115,12 +118,12 @@ module _ (q : Parts) (i : ℕ) (k : JobInvariant q) (may : startable (state_of q
 
   pub replays : (ls : List (Posted × ℕ)) → ls ≡ lacking n q.asked → MayAllReplay (replayed p.journal) (start_entries ls tolds)
   replays ls e =
-      let mine = own-at q.tree.number q.tree.profile q.tree.places 0 i (fresh_place 0 1 0) low k.tree.own in
+      let mine = own-at q.tree.number q.tree.profile q.tree.places 0 i (fresh_place 0 Plain 0) low k.tree.own in
       let own-index : p.journal.index ≡ i = mine.1 ∙ omega arith in
       let own-profile : p.journal.profile ≡ s.ask.profile = mine.2 ∙ k.solvers in
       let all : MayAllReplay (replay s.ask.profile i p.journal.entries) (own.start_entries s (place_of p)) = may-loads (take (length q.asked.answers + 1 - n) (drop n q.asked.revisions)) (clauses_in (take n q.asked.revisions) + 1) tolds (replay s.ask.profile i p.journal.entries) follows low-counts in
       let same : own.start_entries s (place_of p) ≡ start_entries ls tolds = ap (λ (y : NodeSlot). own.start_entries s y) (sym here) ∙ sym (adds-by ls e) in
-      subst (λ (x : ℕ). MayAllReplay (replay x p.journal.index p.journal.entries) (start_entries ls tolds)) (sym own-profile) (subst (λ (m : ℕ). MayAllReplay (replay s.ask.profile m p.journal.entries) (start_entries ls tolds)) (sym own-index) (subst (λ (es : List JournalEntry). MayAllReplay (replay s.ask.profile i p.journal.entries) es) same all))
+      subst (λ (x : Profile). MayAllReplay (replay x p.journal.index p.journal.entries) (start_entries ls tolds)) (sym own-profile) (subst (λ (m : ℕ). MayAllReplay (replay s.ask.profile m p.journal.entries) (start_entries ls tolds)) (sym own-index) (subst (λ (es : List JournalEntry). MayAllReplay (replay s.ask.profile i p.journal.entries) es) same all))
 
   -- the job after the start
   module _ (start : ℕ) (ls : List (Posted × ℕ)) (e : ls ≡ lacking n q.asked) where
@@ -155,7 +158,7 @@ module _ (q : Parts) (i : ℕ) (k : JobInvariant q) (may : startable (state_of q
     lease-journal : (tenant job : List ℕ) → IsTree gone → started start p.journal ≡ journal_at (and_start (viewed tenant job q) i start) i
     lease-journal tenant job ht =
         let inside : i < length gone.places = subst (λ (m : ℕ). i < m) (sym (length-set q.tree.places i (sent (length q.asked.answers) (start_entries ls tolds) start p))) low in
-        let new : placed gone i ≡ sent (length q.asked.answers) (start_entries ls tolds) start p = set-here q.tree.places i (sent (length q.asked.answers) (start_entries ls tolds) start p) (fresh_place 0 1 0) low in
+        let new : placed gone i ≡ sent (length q.asked.answers) (start_entries ls tolds) start p = set-here q.tree.places i (sent (length q.asked.answers) (start_entries ls tolds) start p) (fresh_place 0 Plain 0) low in
         ap (λ (y : PlaceView). y.journal) (sym new) ∙ (sym (journal-same tenant job next i inside ht k.solvers) ∙ ap (λ (v : JobView). journal_at v i) (start-view tenant job))
 
     pub lease-is : {E : Type 0} (tenant job : List ℕ) (worker : ℕ) (result : Result Leased E) → IsTree gone → IfOk result (λ l. l.journal ≡ started start p.journal) → IfOk result (λ l. l.adds ≡ start_entries ls tolds) → IfOk result (λ l. l.worker ≡ worker) → IfOk result (λ l. IsLeaseOf (viewed tenant job q) i start worker l)

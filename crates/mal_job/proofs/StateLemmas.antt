@@ -1,5 +1,6 @@
 -- A job's machine after each event of its own, by its parts.
 use Rattle.std.proofs.Common.{◌≡◌, ℕ, ◌+◌, ◌<◌, Bool, true, false, cond, ◌==◌, nat_lt, List, [], ◌∷◌, ◌++◌, length, Option, Some, None, refl, sym, ◌∙◌, ap}
+use Rattle.mal_base.specs.declared.profile.Profile.TheVariants.{Plain}
 use Rattle.mal_base.specs.declared.answer.Answer.TheVariants.{Spent, OutOfStarts}
 use Rattle.mal_base.specs.declared.verdict.Outcome.{Outcome}
 use Rattle.mal_base.specs.declared.verdict.Outcome.TheVariants.{Ran, Starved, Lost}
@@ -33,7 +34,7 @@ conclude-state None n q = by_test (q.asked.spent + 1 == q.asked.ask.slices)
 conclude-state (Some Satisfiable) n q = refl
 conclude-state (Some (Unsatisfiable goal)) n q = refl
 
--- what a start answers that wanted for memory
+-- what a start answers that ran out of memory
 pub starve-state : (q : Parts) → starve (state_of q) ≡ state_of (record q { asked = starved_once q.asked })
 starve-state q = by_test (q.asked.starved + 1 == 3)
   where
@@ -48,7 +49,7 @@ with-state q i p low = ap (λ (ps : List NodeSlot). let s : SoloMachine = record
 -- a start
 pub started-state : (q : Parts) (i start : ℕ) → i < length q.tree.places → solo_step (state_of q) (Started i) ≡ state_of (record q { tree = with_placed q.tree i (sent (length q.asked.answers) (start_entries (state_of q) (place_at (state_of q) i)) start (placed q.tree i)) })
 started-state q i start low =
-    ap (λ (p : NodeSlot). with_place (state_of q) i (record p { out = Some (record { revision = length q.asked.answers; adds = start_entries (state_of q) (place_at (state_of q) i) }); starts = p.starts + 1 })) (placed-at q.tree.places i (fresh_place 0 1 0) low)
+    ap (λ (p : NodeSlot). with_place (state_of q) i (record p { out = Some (record { revision = length q.asked.answers; adds = start_entries (state_of q) (place_at (state_of q) i) }); starts = p.starts + 1 })) (placed-at q.tree.places i (fresh_place 0 Plain 0) low)
     ∙ with-state q i (sent (length q.asked.answers) (start_entries (state_of q) (place_at (state_of q) i)) start (placed q.tree i)) low
 
 -- the parts of a job whose start ran, with these lines and this verdict, and so much room for chunks
@@ -65,7 +66,7 @@ module _ (q : Parts) (i : ℕ) (l : Lease) (low : i < length q.tree.places) (out
 
   finished-is : (o : Outcome) → finished (state_of q) i (place_at (state_of q) i) (place_at (state_of q) i).out o ≡ finished (state_of q) i (place_of p) (Some l) o
   finished-is o =
-      ap (λ (x : NodeSlot). finished (state_of q) i x x.out o) (placed-at q.tree.places i (fresh_place 0 1 0) low)
+      ap (λ (x : NodeSlot). finished (state_of q) i x x.out o) (placed-at q.tree.places i (fresh_place 0 Plain 0) low)
       ∙ ap (λ (x : Option Lease). finished (state_of q) i (place_of p) x o) out
 
   -- the place after a start that ran
@@ -84,7 +85,7 @@ module _ (q : Parts) (i : ℕ) (l : Lease) (low : i < length q.tree.places) (out
       by_test x true = ran-place room x (remembered (state_of q) l x)
       by_test x false = ap (λ (s : SoloMachine). conclude x.node.verdict x.node s) (ran-place room x (remembered (state_of q) l x)) ∙ conclude-state x.node.verdict x.node (record { asked = q.asked; tree = one_more_ran (with_placed q.tree i (ran_home p)); log = record { lines = q.log.lines ++ x.lines; slices = q.log.slices ++ remembered (state_of q) l x ∷ []; chunk_room = room } })
 
-  -- a start that wanted for memory
+  -- a start that ran out of memory
   pub starved-state : solo_step (state_of q) (Finished i Starved) ≡ settled (state_of (record q { asked = starved_by l.revision q.asked; tree = with_placed q.tree i (came_home p) }))
   starved-state = finished-is Starved ∙ ap settled (by_test (nat_lt l.revision (length q.asked.answers)))
     where

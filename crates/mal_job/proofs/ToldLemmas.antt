@@ -25,7 +25,7 @@ last-some lines k lits e a =
     let is : slice_get lines k ≡ Some (get_or lines k none) = slice_get-get_or lines k none (omega arith) in
     a (get_or lines k none) is ∙ ap (λ (o : Option Line). option_map_or (λ l. l.lits) o []) (sym (ap (slice_get lines) place ∙ is))
 
--- what is told of a proof that is numbered behind the clauses of the revisions up to this one
+-- what is told of a proof that is numbered after the clauses of the revisions up to this one
 pub proof-told : (revisions : List Posted) (log : List Line) (r goal count : ℕ) (lits given : List ℕ) (needed lines : List Line) → 1 ≤ r → lits ≡ lits_at goal log → given ≡ map negated lits → needed ≡ reached goal log → count ≡ clauses_in (take r revisions) → lines ≡ renumbered count needed → Proof given lines ≡ Proof (failed goal log) (proof_lines revisions log (r - 1) goal)
 proof-told revisions log r goal count lits given needed lines some a b c d e =
     let next : r ≡ r - 1 + 1 = omega arith in

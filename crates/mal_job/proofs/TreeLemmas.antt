@@ -1,5 +1,5 @@
 -- What a tree keeps, and what it tells.
-use Rattle.std.proofs.Common.{◌≡◌, ℕ, zero, suc, ◌+◌, ◌-◌, ◌<◌, ◌≤◌, Bool, List, [], ◌∷◌, ◌++◌, length, take, drop, get_or, Option, Some, None, refl, sym, ◌∙◌, ap, subst, arith}
+use Rattle.std.proofs.Common.{◌≡◌, ℕ, zero, suc, ◌+◌, ◌-◌, ◌<◌, ◌≤◌, Bool, List, [], ◌∷◌, ◌++◌, length, map, take, drop, get_or, Option, Some, None, refl, sym, ◌∙◌, ap, subst, arith}
 use Rattle.std.specs.Prelude.{slice_get, IsTrue}
 use Rattle.std.specs.Arc.{arc_value}
 use Rattle.std.specs.declared.sync.Arc.{Arc}
@@ -7,17 +7,17 @@ use Rattle.std.proofs.lemmas.List.{map-append, take_all, length-drop}
 use Rattle.mal_base.specs.NumberedClause.{NumberedClause, Line}
 use Rattle.mal_base.specs.declared.verdict.Outcome.{Outcome}
 use Rattle.mal_base.specs.declared.verdict.Outcome.TheVariants.{Ran, Starved}
-use Rattle.spec_exchange.specs.Exchange.{broadcast, entries_of}
+use Rattle.spec_exchange.specs.Exchange.{broadcast}
 use Rattle.spec_job.specs.Journaled.{Journaled, and_entries}
 use Rattle.spec_job.specs.Leased.{Finished}
 use Rattle.spec_job.specs.SoloMachine.{Lease, exports_from}
 use Rattle.spec_job.specs.Viewed.{IsGrownBy}
 use Rattle.mal_job.specs.Among.{among}
-use Rattle.mal_job.specs.Exports.{broadcasts_from, marked}
+use Rattle.mal_job.specs.Exports.{marked}
 use Rattle.mal_job.specs.Placing.{IsBackAt, IsGrown, IsTree, with_placed}
-use Rattle.mal_job.specs.Viewed.{PlaceView, TreeView, shared, places_of}
+use Rattle.mal_job.specs.Viewed.{PlaceView, TreeView, shared, place_of, places_of}
 use Rattle.mal_job.proofs.PlaceLemmas.{length-set, own-at, own-set, grown-own}
-use Rattle.mal_job.proofs.ExchangeLemmas.{length-marked, own-marked, told-is}
+use Rattle.mal_job.proofs.ExchangeLemmas.{length-marked, own-marked, exports-are}
 
 -- a place that is set has the journal of its node
 pub tree-set : (t : TreeView) (i : ℕ) (old new : PlaceView) → i < length t.places → old ≡ get_or t.places i old → new.journal.job ≡ old.journal.job → new.journal.index ≡ old.journal.index → new.journal.profile ≡ old.journal.profile → IsTree t → IsTree (with_placed t i new)
@@ -26,27 +26,23 @@ tree-set t i old new low is same_job same_index same_profile k =
     record {
       few = subst (λ (n : ℕ). n ≤ 64) (sym (length-set t.places i new)) k.few;
       volume = k.volume;
-      some_profile = k.some_profile;
-      profile_bound = k.profile_bound;
       own = own-set t.number t.profile t.places 0 i new (same_job ∙ (ap (λ (p : PlaceView). p.journal.job) is ∙ own.0)) (same_index ∙ (ap (λ (p : PlaceView). p.journal.index) is ∙ own.1)) (same_profile ∙ (ap (λ (p : PlaceView). p.journal.profile) is ∙ own.2)) k.own;
     }
 
 -- places that are made
 pub tree-grown : (t : TreeView) (ps : List PlaceView) → IsGrown t.number t.profile t.places ps → length ps ≤ 64 → IsTree t → IsTree (record t { places = ps })
-tree-grown t ps g low k = record { few = low; volume = k.volume; some_profile = k.some_profile; profile_bound = k.profile_bound; own = grown-own t.number t.profile t.places ps g k.own }
+tree-grown t ps g low k = record { few = low; volume = k.volume; own = grown-own t.number t.profile t.places ps g k.own }
 
 -- marks that are moved, and what is told
 pub tree-exchanged : (t : TreeView) (n mark : ℕ) (tolds : List (List NumberedClause)) (ps : List PlaceView) → ps ≡ marked n mark t.places → IsTree t → IsTree (record { number = t.number; profile = t.profile; volume = t.volume; places = ps; broadcasts = tolds; ran = 0 })
 tree-exchanged t n mark tolds ps e k = subst (λ (xs : List PlaceView). IsTree (record { number = t.number; profile = t.profile; volume = t.volume; places = xs; broadcasts = tolds; ran = 0 })) (sym e) (record {
   few = subst (λ (j : ℕ). j ≤ 64) (sym (length-marked n mark t.places)) k.few;
   volume = k.volume;
-  some_profile = k.some_profile;
-  profile_bound = k.profile_bound;
   own = own-marked t.number t.profile 0 n mark t.places k.own;
 })
 
-pub exchanged-is : (t : TreeView) (log : List Line) (ps : List PlaceView) (tolds us : List (List NumberedClause)) (told : List NumberedClause) (mark : ℕ) → ps ≡ marked t.volume mark t.places → mark ≡ length log → tolds ≡ t.broadcasts ++ told ∷ [] → told ≡ broadcast (entries_of us) → us ≡ broadcasts_from log 0 (take t.volume t.places) → t.volume ≤ length t.places → record { number = t.number; profile = t.profile; volume = t.volume; places = ps; broadcasts = tolds; ran = 0 } ≡ record t { broadcasts = t.broadcasts ++ broadcast (exports_from t.volume log 0 (places_of t.places)) ∷ []; places = marked t.volume (length log) t.places; ran = 0 }
-exchanged-is t log ps tolds us told mark a b c d e low = rw (a, b, c, d, e, told-is t.volume log t.places low) refl
+pub exchanged-is : (t : TreeView) (log : List Line) (ps : List PlaceView) (tolds : List (List NumberedClause)) (told : List NumberedClause) (mark : ℕ) → ps ≡ marked t.volume mark t.places → mark ≡ length log → tolds ≡ t.broadcasts ++ told ∷ [] → told ≡ broadcast (exports_from (length (take t.volume t.places)) log 0 (map place_of (take t.volume t.places))) → t.volume ≤ length t.places → record { number = t.number; profile = t.profile; volume = t.volume; places = ps; broadcasts = tolds; ran = 0 } ≡ record t { broadcasts = t.broadcasts ++ broadcast (exports_from t.volume log 0 (places_of t.places)) ∷ []; places = marked t.volume (length log) t.places; ran = 0 }
+exchanged-is t log ps tolds told mark a b c d low = rw (a, b, c, d, exports-are t.volume log t.places low) refl
 
 module _ {X Z : Type 0} where
   pub shared-push : (xs : List (Arc X Z)) (x : Arc X Z) → shared (xs ++ x ∷ []) ≡ shared xs ++ arc_value x ∷ []

@@ -1,4 +1,5 @@
-use Rattle.std.specs.Prelude.{◌≡◌, ℕ, ◌+◌, ◌-◌, ◌*◌, ◌<◌, ◌≤◌, ◌^◌, ◌==◌, nat_lt, not, ◌&&◌, Bool, List, [], ◌∷◌, ◌++◌, length, replicate, Option, Some, None, is_some, if◌then◌else◌}
+use Rattle.std.specs.Prelude.{◌≡◌, ℕ, ◌+◌, ◌-◌, ◌*◌, ◌<◌, ◌≤◌, ◌==◌, nat_lt, not, ◌&&◌, Bool, List, [], ◌∷◌, ◌++◌, length, replicate, Option, Some, None, is_some, if◌then◌else◌}
+use Rattle.mal_base.specs.Limits.{limits}
 use Rattle.mal_base.specs.declared.answer.Answer.{Answer}
 use Rattle.mal_base.specs.declared.answer.Answer.TheVariants.{Satisfied, Refuted, Spent, OutOfStarts}
 use Rattle.mal_base.specs.declared.verdict.Verdict.{Verdict}
@@ -7,11 +8,11 @@ use Rattle.mal_revision.specs.Posted.{Posted}
 use Rattle.spec_job.specs.SoloMachine.{clauses_in, literals_in}
 use Rattle.mal_job.specs.Viewed.{QuestionsView}
 
--- these are the numbers of the clauses and of the literals of revisions, which have 2^24 literals each at most
+-- these are the numbers of the clauses and of the literals of revisions, each of which is within what is served
 pub record AreSums (revisions : List Posted) (clauses literals : ℕ) : Type 0 where
   pub clauses_summed : clauses ≡ clauses_in revisions
   pub literals_summed : literals ≡ literals_in revisions
-  pub few : literals ≤ length revisions * 16777216
+  pub few : literals ≤ length revisions * limits.literals
 
 -- one revision more
 abbrev pub and_revision : QuestionsView → Posted → QuestionsView
@@ -40,7 +41,7 @@ abbrev pub concluded : Option Answer → QuestionsView → QuestionsView
 concluded None q = spent_once q
 concluded (Some a) q = replied q a
 
--- the third start of a revision that wanted for memory answers unknown
+-- the third start of a revision that ran out of memory answers unknown
 abbrev pub starved_once : QuestionsView → QuestionsView
 starved_once q = if q.starved + 1 == 3 then replied q OutOfStarts else record q { starved = q.starved + 1 }
 
@@ -53,7 +54,7 @@ concluded_by revision answer q = if nat_lt revision (length q.answers) then q el
 abbrev pub ends_by : ℕ → Option Answer → QuestionsView → Bool
 ends_by revision answer q = not (nat_lt revision (length q.answers)) && is_some answer
 
--- a start for this revision wanted for memory: where the revision has its answer it is not counted
+-- a start for this revision ran out of memory: where the revision has its answer it is not counted
 abbrev pub starved_by : ℕ → QuestionsView → QuestionsView
 starved_by revision q = if nat_lt revision (length q.answers) then q else starved_once q
 
@@ -65,8 +66,8 @@ settled_with (Some goal) q = record q { answers = q.answers ++ replicate (length
 -- the counts of what was asked are within their bounds
 pub record IsAsked (q : QuestionsView) : Type 0 where
   pub left : q.spent < q.ask.slices
-  pub few_slices : q.ask.slices ≤ 4096
+  pub few_slices : q.ask.slices ≤ limits.slices
   pub few_starved : q.starved ≤ 2
   pub order : length q.answers ≤ length q.revisions
-  pub few : length q.revisions ≤ 256
-  pub clauses : clauses_in q.revisions ≤ 2 ^ 20
+  pub few : length q.revisions ≤ limits.revisions
+  pub clauses : clauses_in q.revisions ≤ limits.clauses

@@ -1,21 +1,10 @@
-use Rattle.std.specs.Prelude.{ℕ, zero, suc, ◌+◌, List, [], ◌∷◌, map, filter, drop, is_none, if◌then◌else◌}
-use Rattle.mal_base.specs.NumberedClause.{NumberedClause, Line}
-use Rattle.spec_exchange.specs.Exchange.{broadcast}
-use Rattle.spec_job.specs.SoloMachine.{is_exported}
+use Rattle.std.specs.Prelude.{ℕ, zero, suc, min, List, [], ◌∷◌, is_none, if◌then◌else◌}
 use Rattle.mal_job.specs.Viewed.{PlaceView}
 
--- what a node exports of these lines
-abbrev pub exported_by : ℕ → List Line → List NumberedClause
-exported_by i lines = map (λ l. record { id = l.id; lits = l.lits }) (filter (is_exported i) lines)
-
--- what a place of this index exports of the lines behind its mark, nothing where it is out
-abbrev pub exports_at : List Line → ℕ → PlaceView → List NumberedClause
-exports_at log i p = if is_none p.out then exported_by i (drop p.mark log) else []
-
--- what is broadcast of each of these places for itself; the first has this index
-abbrev pub broadcasts_from : List Line → ℕ → List PlaceView → List (List NumberedClause)
-broadcasts_from log i [] = []
-broadcasts_from log i (p ∷ ps) = broadcast (exports_at log i p) ∷ broadcasts_from log (i + 1) ps
+-- the least of a number and of the marks of those of these places that are at home
+abbrev pub least_mark : ℕ → List PlaceView → ℕ
+least_mark n [] = n
+least_mark n (p ∷ ps) = least_mark (if is_none p.out then min n p.mark else n) ps
 
 -- a place with its mark moved, where it is at home
 abbrev pub marked_at : ℕ → PlaceView → PlaceView

@@ -23,7 +23,7 @@ abbrev pub MayFinish : JobView → ℕ → Option Finished → Type 0
 MayFinish v index None = is_some (place_at v.titled.state index).out ≡ true
 MayFinish v index (Some d) = IsBack v index d
 
--- the start that is out at an index may end as one that wanted for memory: it is out, and what is kept of its node, if
+-- the start that is out at an index may end as one that ran out of memory: it is out, and what is kept of its node, if
 -- anything is, has the journal from before it
 pub record MayStarve (v : JobView) (index : ℕ) (kept : Option Kept) : Type 0 where
   pub out : is_some (place_at v.titled.state index).out ≡ true

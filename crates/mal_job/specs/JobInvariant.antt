@@ -13,7 +13,7 @@ pub record IsOwn (s : SoloMachine) : Type 0 where
   pub once : IsOpenedOnce ask own
   pub is : s ≡ solo (Opened ask ∷ own)
 
--- what a job keeps: its machine was run alone on own events that may happen, behind one opening; each of its parts
+-- what a job keeps: its machine was run alone on own events that may happen, after one opening; each of its parts
 -- keeps what it has to; the tree's nodes have the profile that the job asks for; and the log has no more lines than the
 -- slices may have given, and room for a chunk of each start that is out
 pub record JobInvariant (q : Parts) : Type 0 where

@@ -7,3 +7,4 @@ pub mod Exports
 pub mod Among
 pub mod Finishing
 pub mod Replying
+pub mod Findings

@@ -1,4 +1,6 @@
 use Rattle.std.specs.Prelude.{◌≡◌, ℕ, zero, suc, ◌+◌, ◌≤◌, List, [], ◌∷◌, ◌++◌, length, drop, slice_set, get_or, Option, Some, None}
+use Rattle.mal_base.specs.declared.profile.Profile.{Profile}
+use Rattle.mal_base.specs.declared.profile.Profile.TheVariants.{Plain}
 use Rattle.spec_job.specs.Journal.{JournalEntry}
 use Rattle.spec_job.specs.Journaled.{Journaled, and_entries, started}
 use Rattle.spec_job.specs.Leased.{Finished}
@@ -47,16 +49,16 @@ adds_of None = []
 adds_of (Some l) = l.adds
 
 -- the place of this index of a job, whose solvers have this profile, before its first start
-abbrev pub fresh_place : ℕ → ℕ → ℕ → PlaceView
+abbrev pub fresh_place : ℕ → Profile → ℕ → PlaceView
 fresh_place number profile index = record { journal = record { job = number; profile = profile; index = index; start = 0; entries = [] }; out = None; starts = 0; mark = 0 }
 
 -- so many of them, the first of this index
-abbrev pub fresh_from : ℕ → ℕ → ℕ → ℕ → List PlaceView
+abbrev pub fresh_from : ℕ → Profile → ℕ → ℕ → List PlaceView
 fresh_from number profile index zero = []
 fresh_from number profile index (suc n) = fresh_place number profile index ∷ fresh_from number profile (index + 1) n
 
--- places, and behind them such as were never started
-abbrev pub IsGrown : ℕ → ℕ → List PlaceView → List PlaceView → Type 0
+-- places, and after them such as were never started
+abbrev pub IsGrown : ℕ → Profile → List PlaceView → List PlaceView → Type 0
 IsGrown number profile before after = (n : ℕ) × (after ≡ before ++ fresh_from number profile (length before) n)
 
 -- the place after the start of this number, for a revision, that adds these entries
@@ -78,7 +80,7 @@ pub record IsBackAt (p : PlaceView) (d : Finished) : Type 0 where
   pub journal : IsGrownBy d.outcome lease.adds p.journal d.journal
 
 -- each place has the journal of its own node, of the job's number and profile, the first of which has this index
-abbrev pub AreOwn : ℕ → ℕ → ℕ → List PlaceView → Type 0
+abbrev pub AreOwn : ℕ → Profile → ℕ → List PlaceView → Type 0
 AreOwn number profile i [] = Unit {0}
 AreOwn number profile i (p ∷ ps) = (p.journal.job ≡ number) × (p.journal.index ≡ i) × (p.journal.profile ≡ profile) × AreOwn number profile (i + 1) ps
 
@@ -86,13 +88,11 @@ AreOwn number profile i (p ∷ ps) = (p.journal.job ≡ number) × (p.journal.in
 pub record IsTree (t : TreeView) : Type 0 where
   pub few : length t.places ≤ 64
   pub volume : t.volume ≤ 64
-  pub some_profile : 1 ≤ t.profile
-  pub profile_bound : t.profile ≤ 2
   pub own : AreOwn t.number t.profile 0 t.places
 
 -- the place of a tree at an index
 abbrev pub placed : TreeView → ℕ → PlaceView
-placed t i = get_or t.places i (fresh_place 0 1 0)
+placed t i = get_or t.places i (fresh_place 0 Plain 0)
 
 -- a tree with another place at an index
 abbrev pub with_placed : TreeView → ℕ → PlaceView → TreeView

@@ -4,6 +4,7 @@ use Rattle.std.specs.declared.sync.Arc.{Arc}
 use Rattle.mal_base.specs.Asks.{Terms}
 use Rattle.mal_base.specs.NumberedClause.{NumberedClause, Line}
 use Rattle.mal_base.specs.declared.answer.Answer.{Answer}
+use Rattle.mal_base.specs.declared.profile.Profile.{Profile}
 use Rattle.mal_revision.specs.Posted.{Posted}
 use Rattle.spec_proof.specs.Log.{IsOrderly}
 use Rattle.mal_proof.specs.Logged.{Part}
@@ -16,7 +17,7 @@ abbrev pub shared : {X Z : Type 0} → List (Arc X Z) → List X
 shared xs = map (λ x. arc_value x) xs
 
 -- what was asked of a job and what was answered: the ask, whether it was closed, the revisions with their answers, and
--- how many slices the current revision has spent and how many of its starts wanted for memory
+-- how many slices the current revision has spent and how many of its starts ran out of memory
 pub record QuestionsView : Type 0 where
   pub ask : Terms
   pub closed : Bool
@@ -40,7 +41,7 @@ pub record PlaceView : Type 0 where
 -- used, what was broadcast to all, and how many slices were run since the last exchange
 pub record TreeView : Type 0 where
   pub number : ℕ
-  pub profile : ℕ
+  pub profile : Profile
   pub volume : ℕ
   pub places : List PlaceView
   pub broadcasts : List (List NumberedClause)
@@ -56,7 +57,7 @@ pub record LogView : Type 0 where
   pub slices : List Slice
   pub chunk_room : ℕ
 
--- these lines may stand behind those of a log: there is room for them, and with those before them they can be counted
+-- these lines may stand after those of a log: there is room for them, and with those before them they can be counted
 -- and have numbers of derived clauses, each once and above all its hints
 pub record MayAppend (log : LogView) (lines : List Line) : Type 0 where
   pub room : 1 ≤ log.chunk_room
@@ -73,7 +74,7 @@ pub record Parts : Type 0 where
 abbrev pub place_of : PlaceView → NodeSlot
 place_of p = record { entries = p.journal.entries; out = p.out; starts = p.starts; mark = p.mark }
 
--- 64 places: these, and vacant ones behind them
+-- 64 places: these, and vacant ones after them
 abbrev pub filled : List NodeSlot → List NodeSlot
 filled places = places ++ replicate (64 - length places) vacant
 

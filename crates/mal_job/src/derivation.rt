@@ -79,7 +79,7 @@ impl Derivation {
         self.log.reserve_chunks(slices)
     }
 
-    /// Puts the lines of a slice behind the others, for which there is room, with whether the slice answered a
+    /// Puts the lines of a slice after the others, for which there is room, with whether the slice answered a
     /// revision. With those before them they have numbers of derived clauses, each once and above all its hints. Takes
     /// no memory.
     pub fn append(&mut self, lines: Lines, ends: bool)

@@ -1,9 +1,10 @@
 //! What the nodes of a job export.
 
-ghost use Rattle.std.specs.Prelude.{◌≡◌, ◌%◌, ◌<◌, ◌≤◌, ◌==◌, ◌&&◌, ◌++◌, nat_le, true, All, length, take, drop, IfOk, OnOk};
+ghost use Rattle.std.specs.Prelude.{◌≡◌, ◌%◌, ◌<◌, ◌≤◌, ◌++◌, nat_le, ◌&&◌, true, All, length, map, take, drop, IfOk, OnOk};
 ghost use Rattle.mal_base.specs.Clauses.{rises};
 ghost use Rattle.spec_exchange.specs.Exchange.{broadcast};
-ghost use Rattle.mal_job.specs.Exports.{exported_by, exports_at, broadcasts_from, marked, marked_at};
+ghost use Rattle.spec_job.specs.{SoloMachine.{exports_from}, OnePass.{awaits, taken_from}};
+ghost use Rattle.mal_job.specs.{Exports.{least_mark, marked, marked_at}, Viewed.{place_of}};
 
 use crate::node_slot::NodeSlot;
 use mal_base::{Clause, ClauseId, Lit, NumberedClause};
@@ -18,70 +19,61 @@ const MOST_LITERALS: usize = 16;
 /// A tree has 64 places.
 const PLACES: u64 = 64;
 
-/// What is broadcast of the lines behind the marks of these places, the first ones of a job, each for itself, and
-/// nothing of those that are out; the literals of each line rise by variable.
-pub fn exports(alloc: Global, places: &[NodeSlot], log: &Log) -> Result<Vec<Buffer>, AllocError>
+/// What is broadcast of a log for these places, the first ones of a job: of each that is at home the clauses that it
+/// exports of the lines after its mark. The literals of each line rise by variable.
+pub fn broadcast_of(alloc: Global, places: &[NodeSlot], log: &Log) -> Result<Buffer, AllocError>
     requires { All (λ line. rises line.lits ≡ true) log.now.lines }
-    ensures { IfOk result (λ v. v.items ≡ broadcasts_from log.now.lines 0 places.now) }
+    ensures { IfOk result
+        (λ b. b ≡ broadcast (exports_from (length places.now) log.now.lines 0 (map place_of places.now))) }
 {
-    let mut buffers = Vec::with_capacity(alloc, places.len())?;
-    for index in 0..places.len() {
-        buffers.push(broadcast_of(alloc, &places[index], log, index as u64)?)?;
-    }
-    Ok(buffers)
+    let entries = taken(alloc, places, log)?;
+    Ok(broadcast(entries))
 }
 
-/// What is broadcast of a log for a place of this index.
-fn broadcast_of(
-    alloc: Global,
-    place: &NodeSlot,
-    log: &Log,
-    index: u64,
-) -> Result<Buffer, AllocError>
+/// The clauses of the lines that are exported, in one pass over the log from the least mark on.
+fn taken(alloc: Global, places: &[NodeSlot], log: &Log) -> Result<Vec<NumberedClause>, AllocError>
     requires { All (λ line. rises line.lits ≡ true) log.now.lines }
-    ensures { IfOk result (λ b. b ≡ broadcast (exports_at log.now.lines index place.now)) }
-{
-    if place.is_out() {
-        return Ok(Buffer::new(alloc));
-    }
-    let clauses = exported(alloc, log, index, place.mark())?;
-    broadcast(alloc, clauses.as_slice())
-}
-
-/// What a node exports of a log's lines, from this place on.
-fn exported(
-    alloc: Global,
-    log: &Log,
-    node: u64,
-    from: usize,
-) -> Result<Vec<NumberedClause>, AllocError>
-    requires { All (λ line. rises line.lits ≡ true) log.now.lines }
-    ensures { IfOk result (λ v. v.items ≡ exported_by node (drop from log.now.lines)) }
+    ensures { IfOk result
+        (λ v. v.items ≡ taken_from (length places.now) (map place_of places.now) 0 log.now.lines) }
 {
     let count = log.count();
-    let mut clauses = Vec::new(alloc);
-    for n in from..count {
-        push_exported(alloc, &mut clauses, log, node, n)?;
+    let mut entries = Vec::new(alloc);
+    for n in least_mark(places, count)..count {
+        push_taken(alloc, &mut entries, places, log, n)?;
     }
-    Ok(clauses)
+    Ok(entries)
 }
 
-/// Puts what a node exports of one line behind other clauses: the line's clause, where it is one of its own, of 1 to 16
-/// literals.
-fn push_exported(
+/// The least of a number and of the marks of those of these places that are at home.
+fn least_mark(places: &[NodeSlot], most: usize) -> usize
+    ensures { result ≡ least_mark most places.now }
+{
+    let mut least = most;
+    for place in places {
+        if !place.is_out() {
+            least = least.min(place.mark());
+        }
+    }
+    least
+}
+
+/// Puts the clause of a line after others, where the line is exported.
+fn push_taken(
     alloc: Global,
-    clauses: &mut Vec<NumberedClause>,
+    entries: &mut Vec<NumberedClause>,
+    places: &[NodeSlot],
     log: &Log,
-    node: u64,
     n: usize,
 ) -> Result<(), AllocError>
     requires within { n < length log.now.lines }
     requires rising { All (λ line. rises line.lits ≡ true) log.now.lines }
     ensures { OnOk result
-        (clauses.new.items ≡ clauses.old.items ++ exported_by node (take 1 (drop n log.now.lines))) }
+        (entries.new.items
+        ≡ entries.old.items
+        ++ taken_from (length places.now) (map place_of places.now) n (take 1 (drop n log.now.lines))) }
 {
     let id = log.id(n);
-    if !is_own(node, id) {
+    if !awaits(places, node_of(id), n) {
         return Ok(());
     }
     let lits = log.lits(n);
@@ -89,17 +81,28 @@ fn push_exported(
         return Ok(());
     }
     let clause = clause_of(alloc, lits)?;
-    clauses.push(NumberedClause::new(id, clause))?;
+    entries.push(NumberedClause::new(id, clause))?;
     Ok(())
 }
 
-/// Whether a node derived the clause of this number.
-fn is_own(node: u64, id: ClauseId) -> bool
-    ensures { result ≡ (id % 64 == node) }
+/// The place of the node that derived the clause of this number.
+fn node_of(id: ClauseId) -> usize
+    ensures { result ≡ id % 64 }
 {
     // The index of the node that derived a clause is what is left of its number divided by 64, so an exchange looks
-    // into no node; its cost is the volume times the new lines.
-    id.number() % PLACES == node
+    // into no node.
+    (id.number() % PLACES) as usize
+}
+
+/// Whether the place of this index is one of these and at home, and the line that stands so far in the log came after
+/// its mark.
+fn awaits(places: &[NodeSlot], index: usize, n: usize) -> bool
+    ensures { result ≡ awaits (length places.now) (map place_of places.now) index n }
+{
+    match places.get(index) {
+        None => false,
+        Some(place) => !place.is_out() && place.mark() <= n,
+    }
 }
 
 /// Whether a clause of these literals may be exported.

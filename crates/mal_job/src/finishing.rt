@@ -55,7 +55,7 @@ pub fn finish_run(
     give_up(questions, tree);
 }
 
-/// Ends a start that wanted for memory: the node comes home as it was, or is gone where nothing is kept of it, and
+/// Ends a start that ran out of memory: the node comes home as it was, or is gone where nothing is kept of it, and
 /// unless the revision of the start has its answer, the start is counted. Takes no memory.
 pub fn finish_starved(
     questions: &mut Questions,
@@ -98,7 +98,7 @@ fn bring_home(tree: &mut Tree, index: u32, kept: Option<Kept>) -> usize
     }
 }
 
-/// Counts a start for this revision that wanted for memory, unless the revision has its answer. Takes no memory.
+/// Counts a start for this revision that ran out of memory, unless the revision has its answer. Takes no memory.
 fn count_starved(questions: &mut Questions, tree: &mut Tree, log: &Derivation, revision: usize)
     requires { length questions.old.answers ≤ revision
         → length questions.old.answers < length questions.old.revisions }

@@ -1,24 +1,26 @@
 //! A job: its machine, which only takes events.
 
-ghost use Rattle.std.specs.Prelude.{◌≡◌, ◌↔◌, ◌+◌, ◌-◌, ◌<◌, ◌≤◌, ◌^◌, ◌==◌, not, true, length, slice_get, is_some, IsTrue, Some, None, OnOk, OnErr, IfOk};
+ghost use Rattle.std.specs.Prelude.{◌≡◌, ◌↔◌, ◌+◌, ◌-◌, ◌<◌, ◌≤◌, ◌^◌, ◌==◌, ℕ, List, not, true, length, slice_get, is_some, IsTrue, Some, None, OnOk, OnErr, IfOk};
 ghost use Rattle.std.specs.Option.{option_copied};
+ghost use Rattle.mal_base.specs.{Limits.{limits}, NumberedClause.{Line}};
 ghost use Rattle.mal_base.specs.declared.verdict.Outcome.TheVariants.{Ran, Starved, Lost};
 ghost use Rattle.spec_job.specs.{SoloMachine.{Opened, Revised, Reasked, Closed, Volume, Finished, Exchanged, unopened, solo_step, is_live, startable, is_exchange_due, place_at, clauses_in, literals_in}, Viewed.{unstarted, and_own, and_start, journal_at, IsLeaseOf, IsBack}, Proofs.{failed, proof_lines}, Replies.{body_by}};
 ghost use Rattle.mal_suspend.specs.Freezing.{IsFrozen};
 ghost use Rattle.spec_report.specs.Replies.{Proof, reply_text};
 ghost use Rattle.mal_report.specs.Told.{body_of};
-ghost use Rattle.mal_job.specs.{Among.{among}, Finishing.{outcome_of, MayFinish, MayFollow, MayStarve}, Replying.{Tells, TellsReply}, Viewed.{shared}};
+ghost use Rattle.mal_job.specs.{Among.{among}, Findings.{Finds, told_by}, Finishing.{outcome_of, MayFinish, MayFollow, MayStarve}, Replying.{Tells, TellsReply}, Viewed.{shared}};
 
 use crate::derivation::Derivation;
+use crate::finding::Finding;
 use crate::finishing::{finish_lost, finish_run, finish_starved, give_up};
 use crate::loading::{count_clauses, missing_loads};
 use crate::questions::{Questions, answer_of};
-use crate::told::{answer_at, copied, last_lits, negations, revision_at};
+use crate::told::{answer_at, copied, last_lits, lits_at, negations, revision_at};
 use crate::tree::Tree;
 use mal_base::{Answer, Ask, ClauseId, Lines, Name, Outcome, Weight};
 use mal_learn::Scratch;
 use mal_proof::renumber;
-use mal_report::{Told, reply};
+use mal_report::{Cause, Told, reply};
 use mal_revision::Revision;
 use mal_suspend::{Done, Kept, Lease};
 use std::alloc::{AllocError, Global};
@@ -123,16 +125,16 @@ impl Job {
     /// The revisions, in the order in which they were posted.
     pub fn revisions(&self) -> &[Arc<Revision>]
         ensures value { shared result.now ≡ self.now.titled.state.revisions }
-        ensures few { length self.now.titled.state.revisions ≤ 256 }
-        ensures clauses { clauses_in self.now.titled.state.revisions ≤ 2 ^ 20 }
+        ensures few { length self.now.titled.state.revisions ≤ limits.revisions }
+        ensures clauses { clauses_in self.now.titled.state.revisions ≤ limits.clauses }
     {
         self.questions.revisions()
     }
 
-    /// The number of the clauses of all revisions, tautologies among them, at most 2^20. It is kept, and takes no count.
+    /// The number of the clauses of all revisions, tautologies among them. It is kept, and takes no count.
     pub fn clauses(&self) -> u32
         ensures value { result ≡ clauses_in self.now.titled.state.revisions }
-        ensures bound { result ≤ 2 ^ 20 }
+        ensures bound { result ≤ limits.clauses }
     {
         self.questions.clauses()
     }
@@ -177,6 +179,33 @@ impl Job {
         }
     }
 
+    /// What is found of a revision, numbered from 1: None exactly where it is not answered. No lines of a proof are made.
+    pub fn finding(&self, r: u32) -> Result<Option<Finding>, AllocError>
+        ensures { IfOk result (λ found. Finds r found self.now.titled.state) }
+    {
+        match answer_at(self.questions.answers(), r) {
+            None => Ok(None),
+            Some(answer) => Ok(Some(self.found(answer)?)),
+        }
+    }
+
+    /// What an answer says but for the lines of a proof.
+    fn found(&self, answer: &Answer) -> Result<Finding, AllocError>
+        ensures { (r : ℕ) → IfOk result
+            (λ found. (lines : List Line) × (body_by self.now.titled.state r answer.now ≡ told_by lines found)) }
+    {
+        let alloc = self.questions.allocator();
+        match answer {
+            Answer::Satisfied(model) => Ok(Finding::Model(copied(alloc, model)?)),
+            Answer::Refuted { goal } => {
+                let failed = negations(alloc, lits_at(self.log.log(), *goal))?;
+                Ok(Finding::Failed(failed))
+            }
+            Answer::Spent(slices) => Ok(Finding::Unknown(Cause::Spent(*slices))),
+            Answer::OutOfStarts => Ok(Finding::Unknown(Cause::Starved)),
+        }
+    }
+
     /// The reply to a revision, numbered from 1: None exactly where it is not answered.
     pub fn reply(&self, r: u32) -> Result<Option<Vec<u8>>, AllocError>
         ensures { IfOk result (λ text. TellsReply self.now.titled.key r text self.now.titled.state) }
@@ -216,7 +245,7 @@ impl Job {
     }
 
     /// What is told of a refuted revision, numbered from 1: the assumptions that fail, and of the log the lines that
-    /// the goal needs, numbered behind the clauses of the revisions up to this one.
+    /// the goal needs, numbered after the clauses of the revisions up to this one.
     fn tell_proof(&self, r: u32, goal: ClauseId) -> Result<Told, AllocError>
         requires first { 1 ≤ r }
         requires posted { r ≤ length self.now.titled.state.revisions }
@@ -250,10 +279,10 @@ impl Job {
     }
 
     /// Posts the job's next revision, and makes room for its answer. It is answered at once where the log holds an
-    /// empty clause. After want of memory the job is as before.
+    /// empty clause. If memory runs out, the job is as before.
     pub fn revise(&mut self, revision: Revision) -> Result<(), AllocError>
-        requires few { length self.old.titled.state.revisions < 256 }
-        requires clauses { clauses_in self.old.titled.state.revisions + length revision.clauses ≤ 2 ^ 20 }
+        requires few { length self.old.titled.state.revisions < limits.revisions }
+        requires clauses { clauses_in self.old.titled.state.revisions + length revision.clauses ≤ limits.clauses }
         ensures ok { OnOk result (self.new ≡ and_own self.old (Revised revision)) }
         ensures err { OnErr result (self.new ≡ self.old) }
     {
@@ -335,7 +364,7 @@ impl Job {
     }
 
     /// Starts the node of this index for the current revision: hands it out to a worker as the lease of the start of
-    /// this number. Makes room for what comes back. After want of memory, and where the count of starts would pass its
+    /// this number. Makes room for what comes back. If memory runs out, and where the count of starts would pass its
     /// end, the job is as before.
     pub fn start(&mut self, index: u32, worker: u32, start: u64) -> Result<Lease, AllocError>
         requires { startable self.old.titled.state index ≡ true }
@@ -374,7 +403,7 @@ impl Job {
     }
 
     /// Ends the start that is out at this index as its slice ended where it was run: with these lines and, unless it is
-    /// late, with this answer. The node is gone. After want of memory the job is as before.
+    /// late, with this answer. The node is gone. If memory runs out, the job is as before.
     pub fn follow(
         &mut self,
         index: u32,
@@ -407,7 +436,7 @@ impl Job {
         }
     }
 
-    /// Ends the start that is out at this index as one that wanted for memory where it was run. The node is gone where
+    /// Ends the start that is out at this index as one that ran out of memory where it was run. The node is gone where
     /// nothing is kept of it. Takes no memory.
     pub fn starve(&mut self, index: u32, kept: Option<Kept>)
         requires { MayStarve self.old index kept }
@@ -417,7 +446,7 @@ impl Job {
     }
 
     /// Puts the node of this index, where it is not out, where its journal is, from the bytes of its image, so that it
-    /// is not rebuilt. After want of memory the node is where it was.
+    /// is not rebuilt. If memory runs out, the node is where it was.
     pub fn wake(&mut self, index: u32, bytes: Vec<u8>) -> Result<(), AllocError>
         requires { IsFrozen bytes.items (journal_at self.old index) }
         ensures { self.new ≡ self.old }
@@ -456,7 +485,7 @@ impl Job {
         );
     }
 
-    /// Ends a start that wanted for memory.
+    /// Ends a start that ran out of memory.
     fn end_starved(&mut self, index: u32, back: Done)
         requires starved { back.outcome ≡ Starved }
         requires back { IsBack self.old index back }
@@ -484,7 +513,7 @@ impl Job {
     }
 
     /// Lets the nodes below the volume that are at home tell one another what they derived since their last exchange.
-    /// After want of memory the job is as before.
+    /// If memory runs out, the job is as before.
     pub fn exchange(&mut self) -> Result<(), AllocError>
         ensures ok { OnOk result (self.new ≡ and_own self.old Exchanged) }
         ensures err { OnErr result (self.new ≡ self.old) }

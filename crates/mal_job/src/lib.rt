@@ -3,6 +3,7 @@
 
 mod derivation;
 mod exchange;
+mod finding;
 mod finishing;
 mod job;
 mod loading;
@@ -11,4 +12,5 @@ mod questions;
 mod told;
 mod tree;
 
+pub use finding::Finding;
 pub use job::Job;

@@ -6,7 +6,7 @@ ghost use Rattle.spec_job.specs.Journaled.{replayed, started, and_entries};
 ghost use Rattle.mal_suspend.specs.{Freezing.{IsFrozen}, Kept.{journal_of}, Replaying.{MayAllReplay}, Starting.{shared_loads, shared_imports, start_entries}};
 ghost use Rattle.mal_job.specs.Placing.{fresh_place, sent, ran_home, came_home, IsBackAt, IsKeptAt, adds_of};
 
-use mal_base::{Outcome, grown};
+use mal_base::{Outcome, Profile, grown};
 use mal_buffer::Buffer;
 use mal_learn::Scratch;
 use mal_revision::Revision;
@@ -51,12 +51,10 @@ impl Model for NodeSlot {
 }
 
 impl NodeSlot {
-    /// The place of this index (0 to 63) of a job, whose solvers have this profile, 1 or 2, before its first start.
-    /// Takes no memory.
-    pub fn fresh(alloc: Global, job: u64, profile: u32, index: u32) -> NodeSlot
-        requires index { index ≤ 63 }
-        requires some { 1 ≤ profile }
-        requires bound { profile ≤ 2 }
+    /// The place of this index (0 to 63) of a job, whose solvers have this profile, before its first start. Takes no
+    /// memory.
+    pub fn fresh(alloc: Global, job: u64, profile: Profile, index: u32) -> NodeSlot
+        requires { index ≤ 63 }
         ensures { result ≡ fresh_place job profile index }
     {
         NodeSlot {
@@ -143,7 +141,7 @@ impl NodeSlot {
 
     /// Hands the node, which is at home, out to a worker for the start of this number and for a revision: it loads
     /// these revisions, each with the number of its first clause, then imports what was broadcast, then runs a slice.
-    /// After want of memory, and where the count of starts would pass its end, the place is as before.
+    /// If memory runs out, and where the count of starts would pass its end, the place is as before.
     pub fn start(
         &mut self,
         revision: usize,
@@ -220,7 +218,7 @@ impl NodeSlot {
         }
     }
 
-    /// Puts the node, where it is not out, where its journal is, from the bytes of its image. After want of memory the
+    /// Puts the node, where it is not out, where its journal is, from the bytes of its image. If memory runs out, the
     /// node is where it was.
     pub fn wake(&mut self, bytes: Vec<u8>) -> Result<(), AllocError>
         requires { IsFrozen bytes.items self.old.journal }

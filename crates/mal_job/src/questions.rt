@@ -1,7 +1,7 @@
 //! What was asked of a job, and what was answered.
 
 ghost use Rattle.std.specs.Prelude.{◌≡◌, ◌+◌, ◌-◌, ◌<◌, ◌≤◌, ◌^◌, [], ◌++◌, true, false, length, replicate, vec_len, vec_capacity, OnOk, OnErr};
-ghost use Rattle.mal_base.specs.{Asks.{reasked}, declared.answer.Answer.TheVariants.{Refuted}};
+ghost use Rattle.mal_base.specs.{Asks.{reasked}, Limits.{limits}, declared.answer.Answer.TheVariants.{Refuted}};
 ghost use Rattle.spec_job.specs.SoloMachine.{clauses_in, literals_in};
 ghost use Rattle.mal_job.specs.{Viewed.{shared}, Asking.{IsAsked, and_revision, replied, answer_with, spent_once, concluded, starved_once, settled_with}};
 
@@ -11,11 +11,11 @@ use std::alloc::{AllocError, Global};
 use std::marker::Model;
 use std::sync::Arc;
 
-/// Three starts of a revision that wanted for memory answer it.
+/// Three starts of a revision that ran out of memory answer it.
 const MOST_STARVED: u32 = 3;
 
 /// The ask of a job, whether it was closed, its revisions with their answers, and how many slices the current revision
-/// has spent and how many of its starts wanted for memory. There is room for each answer that is owed. The numbers of
+/// has spent and how many of its starts ran out of memory. There is room for each answer that is owed. The numbers of
 /// the clauses and of the literals of all revisions are kept, so that no call counts them.
 #[derive(Drop)]
 pub struct Questions {
@@ -89,7 +89,7 @@ impl Questions {
     /// The number of the clauses of all revisions.
     pub fn clauses(&self) -> u32
         ensures value { result ≡ clauses_in self.now.revisions }
-        ensures bound { result ≤ 2 ^ 20 }
+        ensures bound { result ≤ limits.clauses }
     {
         self.clauses
     }
@@ -138,10 +138,10 @@ impl Questions {
     }
 
     /// Posts a revision, and makes room for its answer. It is answered at once where there is the number of an empty
-    /// clause. After want of memory all is as before.
+    /// clause. If memory runs out, all is as before.
     pub fn revise(&mut self, revision: Revision, goal: Option<ClauseId>) -> Result<(), AllocError>
-        requires few { length self.old.revisions < 256 }
-        requires clauses { clauses_in self.old.revisions + length revision.clauses ≤ 2 ^ 20 }
+        requires few { length self.old.revisions < limits.revisions }
+        requires clauses { clauses_in self.old.revisions + length revision.clauses ≤ limits.clauses }
         ensures ok { OnOk result (self.new ≡ settled_with goal (and_revision self.old revision)) }
         ensures err { OnErr result (self.new ≡ self.old) }
         ensures kept { IsAsked self.new }
@@ -195,7 +195,7 @@ impl Questions {
         }
     }
 
-    /// A start of the current revision wanted for memory: the third one answers unknown. Takes no memory.
+    /// A start of the current revision ran out of memory: the third one answers unknown. Takes no memory.
     pub fn starve(&mut self)
         requires live { length self.old.answers < length self.old.revisions }
         ensures value { self.new ≡ starved_once self.old }

@@ -4,9 +4,11 @@ ghost use Rattle.std.specs.Prelude.{◌≡◌, map, IfOk};
 ghost use Rattle.std.specs.Option.{option_copied};
 ghost use Rattle.mal_base.specs.Literals.{negated};
 ghost use Rattle.mal_proof.specs.Goals.{last_lits};
+ghost use Rattle.spec_job.specs.Proofs.{lits_at};
 ghost use Rattle.mal_job.specs.{Among.{among}, Viewed.{shared}};
 
-use mal_base::{Answer, Lines, Lit, Values};
+use mal_base::{Answer, ClauseId, Lines, Lit, Values};
+use mal_proof::Log;
 use mal_revision::Revision;
 use std::alloc::{AllocError, Global};
 use std::sync::Arc;
@@ -42,6 +44,18 @@ pub fn last_lits(lines: &Lines) -> &[Lit]
         None => &[],
         Some(last) => lines.lits(last),
     }
+}
+
+/// The literals of the line of a log with this number, none where there is no such line.
+pub fn lits_at(log: &Log, goal: ClauseId) -> &[Lit]
+    ensures { result.now ≡ lits_at goal log.now.lines }
+{
+    for n in 0..log.count() {
+        if log.id(n) == goal {
+            return log.lits(n);
+        }
+    }
+    &[]
 }
 
 /// The negations of literals.

@@ -7,11 +7,11 @@ ghost use Rattle.spec_job.specs.{Counts.{starts_out}, Journal.{loads_in, imports
 ghost use Rattle.mal_suspend.specs.{Freezing.{IsFrozen}, Kept.{journal_of}, Replaying.{MayAllReplay}, Starting.{shared_loads, shared_imports, start_entries}};
 ghost use Rattle.mal_job.specs.{Exports.{marked}, Placing.{IsGrown, IsTree, IsBackAt, fresh_place, placed, with_placed, sent, ran_home, came_home, one_more_ran, revision_of, adds_of}, Viewed.{places_of}};
 
-use crate::exchange::{exports, move_marks};
+use crate::exchange::{broadcast_of, move_marks};
 use crate::loading::broadcasts_of;
 use crate::node_slot::{NodeSlot, rebuilt};
+use mal_base::Profile;
 use mal_buffer::Buffer;
-use mal_exchange::up;
 use mal_learn::Scratch;
 use mal_proof::Log;
 use mal_revision::Revision;
@@ -25,7 +25,7 @@ use std::sync::Arc;
 #[derive(Drop)]
 pub struct Tree {
     number: u64,
-    profile: u32,
+    profile: Profile,
     volume: u32,
     places: Vec<NodeSlot>,
     broadcasts: Vec<Arc<Buffer>>,
@@ -44,11 +44,9 @@ impl Model for Tree {
 }
 
 impl Tree {
-    /// The tree of a job of this number, whose solvers have this profile, 1 or 2, of which no node was started. Takes
+    /// The tree of a job of this number, whose solvers have this profile, of which no node was started. Takes
     /// no memory.
-    pub fn fresh(alloc: Global, number: u64, profile: u32) -> Tree
-        requires some { 1 ≤ profile }
-        requires bound { profile ≤ 2 }
+    pub fn fresh(alloc: Global, number: u64, profile: Profile) -> Tree
         ensures value { result
             ≡ record { number = number; profile = profile; volume = 0; places = []; broadcasts = []; ran = 0 } }
         ensures kept { IsTree result }
@@ -170,7 +168,7 @@ impl Tree {
         count
     }
 
-    /// Makes the first so many places, where they are not there yet. After want of memory the tree is as before.
+    /// Makes the first so many places, where they are not there yet. If memory runs out, the tree is as before.
     pub fn grow(&mut self, count: usize) -> Result<(), AllocError>
         requires { count ≤ 64 }
         ensures places { IsGrown self.old.number self.old.profile self.old.places self.new.places }
@@ -193,7 +191,7 @@ impl Tree {
 
     /// Hands the node of this index, which is at home, out to a worker for the start of this number and for a revision,
     /// counted from 0: it loads these revisions, each with the number of its first clause, imports what it lacks of
-    /// what was broadcast, and runs a slice. After want of memory the tree is as before.
+    /// what was broadcast, and runs a slice. If memory runs out, the tree is as before.
     pub fn start(
         &mut self,
         index: u32,
@@ -251,8 +249,8 @@ impl Tree {
         }
     }
 
-    /// Puts the node of this index, where it is not out, where its journal is, from the bytes of its image. After want
-    /// of memory the node is where it was.
+    /// Puts the node of this index, where it is not out, where its journal is, from the bytes of its image. If memory
+    /// runs out, the node is where it was.
     pub fn wake(&mut self, index: u32, bytes: Vec<u8>) -> Result<(), AllocError>
         requires { index < length self.old.places → IsFrozen bytes.items (placed self.old index).journal }
         ensures value { self.new ≡ self.old }
@@ -281,7 +279,7 @@ impl Tree {
         revision
     }
 
-    /// The node of this index comes back from a start that wanted for memory. Gives the revision that the start was
+    /// The node of this index comes back from a start that ran out of memory. Gives the revision that the start was
     /// for, counted from 0. Takes no memory.
     pub fn come_home(&mut self, index: u32, kept: Kept) -> usize
         requires out { is_some (placed self.old index).out ≡ true }
@@ -326,8 +324,8 @@ impl Tree {
         }
     }
 
-    /// Lets the nodes below the volume that are at home tell all what they derived since their last exchange. After
-    /// want of memory the tree is as before.
+    /// Lets the nodes below the volume that are at home tell all what they derived since their last exchange. If
+    /// memory runs out, the tree is as before.
     pub fn exchange(&mut self, log: &Log) -> Result<(), AllocError>
         requires rising { All (λ line. rises line.lits ≡ true) log.now.lines }
         requires volume { self.old.volume ≤ length self.old.places }
@@ -346,8 +344,8 @@ impl Tree {
         let alloc = *self.places.allocator();
         let count = self.volume as usize;
         // A place below the volume that was never started takes part: it exports nothing, and its mark is moved.
-        let exported = exports(alloc, &self.places[..count], log)?;
-        let broadcast = Arc::new(alloc, up(alloc, exported.as_slice())?)?;
+        let exported = broadcast_of(alloc, &self.places[..count], log)?;
+        let broadcast = Arc::new(alloc, exported)?;
         self.broadcasts.push(broadcast)?;
         move_marks(&mut self.places, count, log.count());
         self.ran = 0;
@@ -379,18 +377,16 @@ fn missing(
 }
 
 /// Makes the first so many places of a job of this number, whose solvers have this profile, where they are not there
-/// yet. After want of memory they are as before.
+/// yet. If memory runs out, they are as before.
 fn grow(
     alloc: Global,
     number: u64,
-    profile: u32,
+    profile: Profile,
     places: &mut Vec<NodeSlot>,
     count: usize,
 ) -> Result<(), AllocError>
     requires count { count ≤ 64 }
     requires few { length places.old.items ≤ 64 }
-    requires some { 1 ≤ profile }
-    requires bound { profile ≤ 2 }
     ensures grown { IsGrown number profile places.old.items places.new.items }
     ensures few { length places.new.items ≤ 64 }
     ensures ok { OnOk result (count ≤ length places.new.items) }

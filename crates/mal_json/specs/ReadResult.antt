@@ -5,7 +5,7 @@ use Rattle.spec_json.specs.FaultLines.{fault_line}
 use Rattle.spec_json.specs.declared.fault.JsonFault.{JsonFault}
 use Rattle.spec_json.specs.declared.fault.JsonFault.TheVariants.{NotJson, OutOfMemory}
 
--- what was answered, seen by view, is what reading gives; want of memory claims nothing
+-- what was answered, seen by view, is what reading gives; out of memory claims nothing
 abbrev pub Gives : {X Y : Type 0} → (X → Y) → Result X JsonFault → Result Y JsonFault → Type 0
 Gives view (Ok x) read = read ≡ Ok (view x)
 Gives view (Err e) read = e ≢ OutOfMemory → read ≡ Err e

@@ -1,17 +1,18 @@
 //! The jobs of a description, as they are read.
 
-ghost use Rattle.std.specs.Prelude.{◌≡◌, ◌+◌, ◌∷◌, ◌++◌, [], codes, count_by, length, map, true, Ok};
+ghost use Rattle.std.specs.Prelude.{◌≡◌, ◌+◌, ◌∷◌, ◌++◌, [], codes, count_by, length, map, Ok};
+ghost use Rattle.mal_base.specs.Limits.{limits};
 ghost use Rattle.serde_json.specs.View.{view};
-ghost use Rattle.spec_script.specs.{Formed.{tenants_of, with_name}, Limits.{served}};
-ghost use Rattle.spec_json.specs.{Numbers.{has_ask_range}, Reading.{admitted, asked, with_job, with_jobs, with_steps}, Shape.{at, is_revision, steps_in, text_in}};
+ghost use Rattle.spec_script.specs.Formed.{tenants_of, with_name};
+ghost use Rattle.spec_json.specs.{Numbers.{ask_in}, Reading.{admitted, asked, with_job, with_jobs, with_steps}, Shape.{at, is_revision, steps_in, text_in}};
 ghost use Rattle.mal_json.specs.ReadResult.{Gives};
 
 use crate::numbers;
 use crate::shape::{is_revision, names};
 use crate::steps::{all_stepped, limit};
 use crate::taken::{has_job, has_room};
-use mal_base::{LimitKind, Name};
-use mal_script::{Limits, ScriptJob, is_among};
+use mal_base::{Ask, LIMITS, LimitKind, Name};
+use mal_script::{ScriptJob, is_among};
 use serde_json::Value;
 use spec_json::JsonFault;
 use std::alloc::Global;
@@ -86,61 +87,62 @@ impl Jobs {
     }
 
     /// The jobs with the job of a value more, whose steps are read now.
-    fn with_steps(self, tenant: Name, name: Name, value: &Value) -> Result<Jobs, JsonFault>
+    fn with_steps(
+        self,
+        tenant: Name,
+        name: Name,
+        ask: Ask,
+        value: &Value,
+    ) -> Result<Jobs, JsonFault>
         requires tenant { tenant ≡ text_in (at (codes "tenant") (view value.now)) }
         requires name { name ≡ text_in (at (codes "name") (view value.now)) }
-        requires range { has_ask_range (view value.now) ≡ true }
-        ensures { Gives
-            (λ j. j) result
-            (with_steps self (view value.now)) }
+        ensures { Gives (λ j. j) result (with_steps self (view value.now) ask) }
     {
         let alloc = *self.jobs.allocator();
         let steps = all_stepped(alloc, self.next_number(), numbers::items_at(value, "steps"))?;
-        let job = ScriptJob::new(tenant, name, numbers::ask(value), steps);
+        let job = ScriptJob::new(tenant, name, ask, steps);
         self.push(job)
     }
 
     /// The jobs with the job of a value more, where it may follow them.
-    fn admitted(self, tenant: Name, name: Name, value: &Value) -> Result<Jobs, JsonFault>
+    fn admitted(self, tenant: Name, name: Name, ask: Ask, value: &Value) -> Result<Jobs, JsonFault>
         requires tenant { tenant ≡ text_in (at (codes "tenant") (view value.now)) }
         requires name { name ≡ text_in (at (codes "name") (view value.now)) }
-        requires range { has_ask_range (view value.now) ≡ true }
-        ensures { Gives (λ j. j) result (admitted served self tenant name (view value.now)) }
+        ensures { Gives (λ j. j) result (admitted limits self tenant name (view value.now) ask) }
     {
         let number = self.next_number();
-        let limits = Limits::served();
-        if self.tenants_with(tenant) > limits.tenants {
+        if self.tenants_with(tenant) > LIMITS.tenants {
             return Err(limit(number, LimitKind::Tenants));
         }
         if has_job(self.jobs.as_slice(), tenant, name) {
             return Err(JsonFault::Duplicate { job: number });
         }
-        if !has_room(self.jobs.as_slice(), limits, tenant) {
+        if !has_room(self.jobs.as_slice(), LIMITS, tenant) {
             return Err(limit(number, LimitKind::Jobs));
         }
-        if revisions_in(value) > limits.revisions {
+        if revisions_in(value) > LIMITS.revisions {
             return Err(limit(number, LimitKind::Revisions));
         }
-        self.with_steps(tenant, name, value)
+        self.with_steps(tenant, name, ask, value)
     }
 
-    /// The same where its numbers are in range.
+    /// The same where its numbers make an ask.
     fn asked(self, tenant: Name, name: Name, value: &Value) -> Result<Jobs, JsonFault>
         requires tenant { tenant ≡ text_in (at (codes "tenant") (view value.now)) }
         requires name { name ≡ text_in (at (codes "name") (view value.now)) }
-        ensures { Gives (λ j. j) result (asked served self (view value.now)) }
+        ensures { Gives (λ j. j) result (asked limits self (view value.now) (ask_in (view value.now))) }
     {
-        if !numbers::has_ask_range(value) {
-            return Err(JsonFault::Range {
+        match numbers::ask(value) {
+            Some(ask) => self.admitted(tenant, name, ask, value),
+            None => Err(JsonFault::Range {
                 job: self.next_number(),
-            });
+            }),
         }
-        self.admitted(tenant, name, value)
     }
 
     /// The jobs with the job of a value more.
     pub fn with_job(self, value: &Value) -> Result<Jobs, JsonFault>
-        ensures { Gives (λ j. j) result (with_job served self (view value.now)) }
+        ensures { Gives (λ j. j) result (with_job limits self (view value.now)) }
     {
         match names(value) {
             Some((tenant, name)) => self.asked(tenant, name, value),
@@ -167,7 +169,7 @@ fn revisions_in(value: &Value) -> usize
 
 /// The jobs that these values are, or the first fault of them.
 pub fn all_jobs(alloc: Global, values: &[Value]) -> Result<Vec<ScriptJob>, JsonFault>
-    ensures { Gives (λ v. v.items) result (with_jobs served [] (map view values.now)) }
+    ensures { Gives (λ v. v.items) result (with_jobs limits [] (map view values.now)) }
 {
     let mut jobs = Jobs::new(alloc);
     let mut rest = values;

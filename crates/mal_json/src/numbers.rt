@@ -1,13 +1,13 @@
 //! What the numbers of a description have to be.
 
-ghost use Rattle.std.specs.Prelude.{◌≡◌, codes, map, pos, true};
+ghost use Rattle.std.specs.Prelude.{◌≡◌, map};
 ghost use Rattle.std.specs.List.{list_any};
 ghost use Rattle.serde_json.specs.View.{view};
-ghost use Rattle.spec_json.specs.Numbers.{ask_in, assumptions_in, clauses_in, has_ask_range, has_number, has_weight_range, is_above, is_none, is_number_up_to, weight_in};
-ghost use Rattle.spec_json.specs.Shape.{at, items_in, numbers_in, whole_in, whole_or};
+ghost use Rattle.spec_json.specs.Numbers.{ask_in, assumptions_in, clauses_in, has_number, is_above, is_none, profile_in, weight_in};
+ghost use Rattle.spec_json.specs.Shape.{at, items_in, numbers_in, whole_in};
 
 use crate::shape::items;
-use mal_base::{Ask, Weight};
+use mal_base::{Ask, Profile, Weight};
 use serde_json::Value;
 
 /// The whole number that a value is; 0 of another value.
@@ -30,14 +30,15 @@ pub fn whole_at(value: &Value, key: &str) -> i64
     }
 }
 
-/// The profile that a value names; 1 where it names none.
+/// The number of the profile that a job names: that of the first where it names none.
 fn profile(value: &Value) -> i64
-    ensures { result ≡ whole_or (pos 1) (at (codes "profile") (view value.now)) }
+    ensures { result ≡ profile_in (view value.now) }
 {
+    let first = i64::from(Profile::Plain.number());
     match value.get("profile") {
-        None => 1,
+        None => first,
         Some(found) => match found.as_i64() {
-            None => 1,
+            None => first,
             Some(number) => number,
         },
     }
@@ -53,53 +54,23 @@ pub fn items_at<'a>(value: &'a Value, key: &str) -> &'a [Value]
     }
 }
 
-/// Whether a number is 1 to this one.
-fn is_up_to(max: u32, number: i64) -> bool
-    ensures { result ≡ is_number_up_to max number }
-{
-    1 <= number && number <= i64::from(max)
-}
-
-/// Whether the priority is 1 to 1,000 and the demand 1 to 64.
-pub fn has_weight_range(value: &Value) -> bool
-    ensures { result ≡ has_weight_range (view value.now) }
-{
-    is_up_to(1000, whole_at(value, "priority")) && is_up_to(64, whole_at(value, "demand"))
-}
-
-/// Whether so they are, the slices are 1 to 4,096 and the profile is 1 or 2.
-pub fn has_ask_range(value: &Value) -> bool
-    ensures { result ≡ has_ask_range (view value.now) }
-{
-    has_weight_range(value)
-        && (is_up_to(4096, whole_at(value, "slices")) && is_up_to(2, profile(value)))
-}
-
-/// What a job asks for, whose numbers are in range.
-pub fn ask(value: &Value) -> Ask
-    requires { has_ask_range (view value.now) ≡ true }
+/// What a job asks for. None exactly where a number is out of its range.
+pub fn ask(value: &Value) -> Option<Ask>
     ensures { result ≡ ask_in (view value.now) }
 {
-    let priority = whole_at(value, "priority");
-    let demand = whole_at(value, "demand");
-    let Some(ask) = Ask::of(priority, demand, whole_at(value, "slices")) else {
-        unreachable!()
-    };
-    match ask.with_profile(profile(value)) {
-        Some(ask) => ask,
-        None => unreachable!(),
-    }
+    Ask::of_numbers(
+        whole_at(value, "priority"),
+        whole_at(value, "demand"),
+        whole_at(value, "slices"),
+        profile(value),
+    )
 }
 
-/// The priority and the demand of a step, which are in range.
-pub fn weight(value: &Value) -> Weight
-    requires { has_weight_range (view value.now) ≡ true }
+/// The priority and the demand of a step. None exactly where one is out of its range.
+pub fn weight(value: &Value) -> Option<Weight>
     ensures { result ≡ weight_in (view value.now) }
 {
-    match Weight::of(whole_at(value, "priority"), whole_at(value, "demand")) {
-        Some(weight) => weight,
-        None => unreachable!(),
-    }
+    Weight::of(whole_at(value, "priority"), whole_at(value, "demand"))
 }
 
 /// Whether a number is 0, which stands for no literal.

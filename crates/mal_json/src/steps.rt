@@ -2,7 +2,7 @@
 
 ghost use Rattle.std.specs.Prelude.{◌≡◌, ◌≤◌, ◌&&◌, [], false, map, nat_abs, true};
 ghost use Rattle.std.specs.List.{list_all};
-ghost use Rattle.mal_base.specs.{Clauses.{clash, rises}, Formulas.{is_clause_of, is_within}};
+ghost use Rattle.mal_base.specs.{Clauses.{clash, rises}, Formulas.{is_clause_of, is_within}, Limits.{limits}};
 ghost use Rattle.serde_json.specs.View.{view};
 ghost use Rattle.spec_json.specs.Numbers.{assumptions_in, clauses_in, has_number, is_above, is_none, variables_in};
 ghost use Rattle.spec_json.specs.Reading.{all_stepped, bounded, reasked, revised, revision_in, stepped, with_consistent, with_revision};
@@ -12,19 +12,13 @@ ghost use Rattle.mal_json.specs.ReadResult.{Gives};
 use crate::clauses::{clause_list, sorted_literals};
 use crate::numbers;
 use crate::shape::is_revision;
-use mal_base::{ClauseList, LimitKind, Lit};
+use mal_base::{ClauseList, LIMITS, LimitKind, Lit};
 use mal_revision::{Revision, opposite};
 use mal_script::Step;
 use serde_json::Value;
 use spec_json::JsonFault;
 use std::alloc::Global;
 use std::marker::Model;
-
-/// The most clauses of a job.
-const CLAUSES: usize = 1 << 20;
-
-/// The most literals of a job.
-const LITERALS: usize = 1 << 24;
 
 /// The steps of a job that are read, and how many clauses and literals their revisions have. Contracts see the steps.
 #[derive(Drop)]
@@ -73,7 +67,7 @@ impl Steps {
         clauses: ClauseList,
         assumptions: &[Lit],
     ) -> Result<Steps, JsonFault>
-        requires few { variables ≤ 65536 }
+        requires few { variables ≤ limits.variables }
         requires clauses { list_all (is_clause_of variables) clauses ≡ true }
         requires assumed { (rises assumptions.now && is_within variables assumptions.now) ≡ true }
         ensures { Gives
@@ -82,10 +76,10 @@ impl Steps {
             (record { variables = variables; clauses = clauses; assumptions = assumptions.now })) }
     {
         let (more, longer) = (clauses.len(), clauses.literals());
-        if CLAUSES - self.clauses < more {
+        if LIMITS.clauses - self.clauses < more {
             return Err(limit(job, LimitKind::Clauses));
         }
-        if LITERALS - self.literals < longer {
+        if LIMITS.literals - self.literals < longer {
             return Err(limit(job, LimitKind::Literals));
         }
         let alloc = *self.steps.allocator();
@@ -102,7 +96,7 @@ impl Steps {
     /// The steps with the revision of a value more, whose numbers are in range.
     fn consistent(self, job: usize, variables: u32, value: &Value) -> Result<Steps, JsonFault>
         requires own { variables ≡ nat_abs (variables_in (view value.now)) }
-        requires few { variables ≤ 65536 }
+        requires few { variables ≤ limits.variables }
         requires some { has_number is_none (clauses_in (view value.now)) (assumptions_in (view value.now)) ≡ false }
         requires low { has_number
             (is_above variables) (clauses_in (view value.now)) (assumptions_in (view value.now)) ≡ false }
@@ -123,7 +117,7 @@ impl Steps {
     /// The same where each literal is of one of the variables.
     fn bounded(self, job: usize, variables: u32, value: &Value) -> Result<Steps, JsonFault>
         requires own { variables ≡ nat_abs (variables_in (view value.now)) }
-        requires few { variables ≤ 65536 }
+        requires few { variables ≤ limits.variables }
         requires some { has_number is_none (clauses_in (view value.now)) (assumptions_in (view value.now)) ≡ false }
         ensures { Gives (λ s. s) result (bounded job self (view value.now)) }
     {
@@ -142,7 +136,7 @@ impl Steps {
             return Err(JsonFault::Range { job });
         }
         let variables = variables.unsigned_abs();
-        if variables > 65_536 {
+        if variables > u64::from(LIMITS.variables) {
             return Err(limit(job, LimitKind::Variables));
         }
         self.bounded(job, variables as u32, value)
@@ -152,12 +146,11 @@ impl Steps {
     fn reasked(mut self, job: usize, value: &Value) -> Result<Steps, JsonFault>
         ensures { Gives (λ s. s) result (reasked job self (view value.now)) }
     {
-        if !numbers::has_weight_range(value) {
+        let Some(weight) = numbers::weight(value) else {
             return Err(JsonFault::Range { job });
-        }
+        };
         self.steps.reserve(1)?;
-        self.steps
-            .push_reserved(Step::Reask(numbers::weight(value)));
+        self.steps.push_reserved(Step::Reask(weight));
         Ok(self)
     }
 

@@ -4,8 +4,8 @@ ghost use Rattle.std.specs.Prelude.{◌≡◌, count_by};
 ghost use Rattle.std.specs.List.{list_any};
 ghost use Rattle.spec_script.specs.Reading.{has_room, is_job, is_of};
 
-use mal_base::Name;
-use mal_script::{Limits, ScriptJob};
+use mal_base::{Limits, Name};
+use mal_script::ScriptJob;
 
 /// Whether a job is of this tenant.
 fn is_of(tenant: Name, job: &ScriptJob) -> bool
@@ -25,7 +25,7 @@ fn is_job(tenant: Name, name: Name, job: &ScriptJob) -> bool
 pub fn has_job(jobs: &[ScriptJob], tenant: Name, name: Name) -> bool
     ensures { result ≡ list_any (is_job tenant name) jobs.now }
 {
-    // Along the list, names of jobs only where the tenant is the same: 64 tenants with 64 jobs each cost some eight
+    // Along the list, names of jobs only where the tenant is the same: as many jobs as are served cost some eight
     // million comparisons.
     jobs.iter().any(|job| is_job(tenant, name, job))
 }
@@ -37,7 +37,7 @@ fn jobs_of(jobs: &[ScriptJob], tenant: Name) -> usize
     jobs.iter().filter(|job| is_of(tenant, job)).count()
 }
 
-/// Whether one job more of this tenant may begin behind these.
+/// Whether one job more of this tenant may begin after these.
 pub fn has_room(jobs: &[ScriptJob], limits: Limits, tenant: Name) -> bool
     ensures { result ≡ has_room limits tenant jobs.now }
 {

@@ -14,7 +14,7 @@ use spec_json::JsonFault;
 use std::alloc::{AllocError, Global};
 
 /// The line `fault: json NotJson`, or `fault: json job J` and the fault's words, as `Shape` or `Limit Jobs`, with its
-/// line end. None exactly for want of memory.
+/// line end. None exactly when out of memory.
 pub fn fault_line(alloc: Global, fault: JsonFault) -> Result<Option<Vec<u8>>, AllocError>
     ensures { IfOk result (λ o. MatchOption o (fault ≡ OutOfMemory) (λ text. Tells fault text.items)) }
 {

@@ -5,6 +5,7 @@ use Rattle.std.proofs.lemmas.List.{length-set, get_or-set_same, get_or-set_other
 use Rattle.std.proofs.lemmas.List.Elements.{All-nil, All-cons}
 use Rattle.std.proofs.lemmas.List.Sorted.{list_any-IsPermutation, IsPermutation-reverse}
 use Rattle.std.proofs.lemmas.Bool.{eqb-true, eqb-false}
+use Rattle.mal_base.specs.Limits.{greatest_variable}
 use Rattle.mal_base.specs.Literals.{var_of}
 use Rattle.mal_base.specs.NumberedClause.{NumberedClause, lits_under}
 use Rattle.mal_base.specs.declared.trail_entry.TrailEntry.{TrailEntry}
@@ -125,7 +126,7 @@ analysis-done n a b y z id level clauses es s v w room fits tops begins walks en
     let below : AreBelow n clauses = clauses-below n clauses room.within in
     let apart : IsApart n past = apart-reverse n es room.fitted room.placed in
     let short : length past + 1 ≤ n = apart-short n past room.fitted apart in
-    let small : n ≤ 65537 = fits.small in
+    let small : n ≤ greatest_variable + 1 = fits.small in
     let is : v.state ≡ visited_all clauses level past (see_all (lits_of clauses id) (start a b level id es)) = walks ∙ ap (visited_all clauses level past) begins in
     let at_level : Shows n level id [] (walked (Learned level) clauses past (begun (vars_under clauses id))) v.state = subst (Shows n level id [] (walked (Learned level) clauses past (begun (vars_under clauses id)))) (sym is) (walked-shows n level id clauses past (begun (vars_under clauses id)) (see_all (lits_of clauses id) (start a b level id es)) below apart (omega arith) (begin-shows n a b level id clauses es fits.seen_fits fits.here_fits below apart (omega arith))) in
     let shows : Shows n (top past) id [] (walk_of clauses past id) v.state = subst (λ (k : ℕ). Shows n k id [] (walked (Learned k) clauses past (begun (vars_under clauses id))) v.state) tops at_level in

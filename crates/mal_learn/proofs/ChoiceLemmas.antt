@@ -154,7 +154,7 @@ not-less a b h = from-follows b a (by_less (nat_lt a.len b.len) refl h)
     by_less true q k = let bad : true ≡ false = k in absurd (cc)
     by_less false q k = by_equal (ltb-false a.len b.len q) (a.len == b.len) refl k
 
--- each is no greater than those behind it
+-- each is no greater than those after it
 abbrev Rises : List Droppable → Type 0
 Rises [] = Unit {0}
 Rises (x ∷ xs) = All (λ y. precedes x y ≡ false) xs × Rises xs

@@ -11,3 +11,4 @@ mod ShortenLemmas
 mod ReasonLemmas
 mod ChoiceLemmas
 mod ProfileLemmas
+mod PackLemmas

@@ -6,7 +6,7 @@ use Rattle.std.proofs.lemmas.List.Elements.{All-head, All-tail}
 use Rattle.std.proofs.lemmas.List.Sums.{sum_by-cons, sum_by_push}
 use Rattle.std.proofs.lemmas.List.Sorted.{sum_by-IsPermutation}
 
--- each leads those behind it
+-- each leads those after it
 abbrev pub IsOrdered : {X : Type 0} → (X → X → Type 0) → List X → Type 0
 IsOrdered Leads [] = Unit {0}
 IsOrdered Leads (x ∷ xs) = All (Leads x) xs × IsOrdered Leads xs

@@ -5,6 +5,7 @@ use Rattle.std.proofs.lemmas.List.{length-set, get_or-replicate, length-replicat
 use Rattle.std.proofs.lemmas.List.Elements.{All-head, All-tail}
 use Rattle.std.proofs.lemmas.List.Sorted.{list_any-IsPermutation, IsPermutation-reverse}
 use Rattle.mal_base.specs.Literals.{var_of}
+use Rattle.mal_base.specs.Limits.{greatest_variable}
 use Rattle.mal_base.specs.NumberedClause.{NumberedClause}
 use Rattle.mal_base.specs.declared.trail_entry.TrailEntry.{TrailEntry}
 use Rattle.spec_learn.specs.Analysis.{Walk, has_var, vars_in, vars_under, begun, keeping, resolving, is_left, is_base, are_covered, is_covered, is_resolved, after_seen, after_entry, walked, top}
@@ -93,7 +94,7 @@ shortening-done n a b y z d id level clauses es s base walked_base v w room fits
     let below : AreBelow n clauses = clauses-below n clauses room.within in
     let apart : IsApart n past = apart-reverse n es room.fitted room.placed in
     let short : length past + 1 ≤ n = apart-short n past room.fitted apart in
-    let small : n ≤ 65537 = fits.small in
+    let small : n ≤ greatest_variable + 1 = fits.small in
     let x : Shortening = record { state = v.state; base = walked_base } in
     let first : Shortening = record { state = see_all (lits_of clauses id) (start a b level id es); base = here_all 0 es (replicate d false) } in
     let is : x ≡ shorter_visited_all clauses level past first = walks ∙ (ap (λ (t : State). shorter_visited_all clauses level past (record { state = t; base = base })) begins ∙ ap (λ (f : List Bool). shorter_visited_all clauses level past (record first { base = f })) marks) in

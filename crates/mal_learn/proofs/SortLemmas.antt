@@ -16,7 +16,7 @@ abbrev pub negations : List TrailEntry → List ℕ
 negations [] = []
 negations (e ∷ es) = negations es ++ negated e.lit ∷ []
 
--- hints behind the conflict, the first last
+-- hints after the conflict, the first last
 abbrev pub turned : ℕ → List ℕ → List ℕ
 turned id [] = id ∷ []
 turned id (h ∷ hs) = turned id hs ++ h ∷ []
@@ -25,7 +25,7 @@ pub turned-back : (id : ℕ) (hs : List ℕ) → reverse (turned id hs) ≡ hs +
 turned-back id [] = refl
 turned-back id (h ∷ hs) = reverse-append (turned id hs) (h ∷ []) ∙ ap (λ (xs : List ℕ). h ∷ xs) (turned-back id hs)
 
--- each is at most those behind it
+-- each is at most those after it
 abbrev IsUp : List ℕ → Type 0
 IsUp xs = IsOrdered (λ x y. x ≤ y) xs
 

@@ -5,3 +5,4 @@ pub mod Tracing
 pub mod Shortening
 pub mod Choosing
 pub mod Lending
+pub mod Packed

@@ -1,6 +1,7 @@
 use Rattle.std.specs.Prelude.{◌≡◌, ℕ, ◌+◌, ◌-◌, ◌≤◌, ◌<◌, List, [], All, length, reverse, slice_index_or}
 use Rattle.std.specs.List.Sorted.{IsPermutation, IsSorted}
 use Rattle.std.specs.Ordering.{nat_cmp}
+use Rattle.mal_base.specs.Limits.{greatest_variable}
 use Rattle.mal_base.specs.NumberedClause.{NumberedClause}
 use Rattle.mal_base.specs.Literals.{var_of}
 use Rattle.mal_base.specs.declared.trail_entry.TrailEntry.{TrailEntry}
@@ -34,7 +35,7 @@ pub record Shown : Type 0 where
 
 -- there is a flag of each kind for each variable, and room for literals and hints
 pub record IsFitted (room seen here lits hints : ℕ) : Type 0 where
-  pub small : room ≤ 65537
+  pub small : room ≤ greatest_variable + 1
   pub seen_fits : room ≤ seen
   pub here_fits : room ≤ here
   pub lits_fit : room ≤ lits + 1

@@ -1,17 +1,17 @@
 //! The clause that a solver learns, by its profile.
 
-ghost use Rattle.std.specs.Prelude.{◌≡◌, ◌==◌, reverse};
+ghost use Rattle.std.specs.Prelude.{reverse};
 ghost use Rattle.spec_learn.specs.Learning.{analysed_in};
 ghost use Rattle.mal_learn.specs.Shown.{HasRoom, HasLeft};
 
 use crate::scratch::{Scratch, analyse, analyse_shorter};
-use mal_base::{ClauseId, ClauseView, TrailView};
+use mal_base::{ClauseId, ClauseView, Profile, TrailView};
 
 /// Analyses a conflict as the solvers of a profile do: leaves in a fitted scratch the clause of the first unique
-/// implication point, and under profile 2 its shorter form, with its hints in trail order and the level to jump to.
-/// Takes no memory.
+/// implication point, or its shorter form where the profile minimizes, with its hints in trail order and the level to
+/// jump to. Takes no memory.
 pub fn analyse_in<T: TrailView, C: ClauseView>(
-    profile: u32,
+    profile: Profile,
     trail: &T,
     clauses: &C,
     conflict: ClauseId,
@@ -21,16 +21,9 @@ pub fn analyse_in<T: TrailView, C: ClauseView>(
     ensures { HasLeft
         (analysed_in profile (C.clauses clauses.now) (reverse (T.entries trail.now)) conflict) scratch.old scratch.new }
 {
-    if is_shortening(profile) {
+    if profile.policy().minimizes {
         analyse_shorter(trail, clauses, conflict, scratch);
     } else {
         analyse(trail, clauses, conflict, scratch);
     }
-}
-
-/// Whether the solvers of a profile learn the shorter clause: those of profile 2 do.
-fn is_shortening(profile: u32) -> bool
-    ensures { result ≡ (profile == 2) }
-{
-    profile == 2
 }

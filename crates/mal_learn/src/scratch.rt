@@ -1,6 +1,7 @@
 //! The scratch of an analysis, and the analysis.
 
 ghost use Rattle.std.specs.Prelude.{◌≡◌, ◌-◌, ◌<◌, ◌≤◌, [], length, reverse, take, OnOk, OnErr};
+ghost use Rattle.mal_base.specs.Limits.{greatest_variable};
 ghost use Rattle.spec_learn.specs.{Analysis.{analysed, core, reached, top}, Shorter.{shortened}};
 ghost use Rattle.mal_learn.specs.Shown.{HasRoom, HasLeft, last_of};
 
@@ -59,9 +60,9 @@ impl Scratch {
         }
     }
 
-    /// Makes room for the variables up to this one, at most 65,536. What the last analysis left stays.
+    /// Makes room for the variables up to this one, which a literal can be of. What the last analysis left stays.
     pub fn fit(&mut self, variables: u32) -> Result<(), AllocError>
-        requires { variables ≤ 65536 }
+        requires { variables ≤ greatest_variable }
         ensures room { OnOk result (variables < self.new.room) }
         ensures more { self.old.room ≤ self.new.room }
         ensures clause { self.new.clause ≡ self.old.clause }
@@ -88,7 +89,7 @@ impl Scratch {
     }
 
     /// Puts the spare lines, emptied and with room for so many lines, literals and hints, in place of these, which are
-    /// the spare from now on. After want of memory these lines are as before.
+    /// the spare from now on. If memory runs out, these lines are as before.
     pub fn swap_spare(
         &mut self,
         lines: &mut Lines,

@@ -2,7 +2,7 @@
 
 ghost use Rattle.std.specs.Prelude.{◌≡◌, ◌+◌, ◌-◌, ◌≤◌, ◌<◌, max, All, length, replicate, reverse, take, false, true};
 ghost use Rattle.std.specs.Prelude.{[], ◌∷◌, slice_set, OnOk};
-ghost use Rattle.mal_base.specs.Literals.{var_of};
+ghost use Rattle.mal_base.specs.{Limits.{greatest_variable}, Literals.{var_of}};
 ghost use Rattle.mal_learn.specs.{Working.{see, see_all, lits_of, kept, resolved, by_reason, visited, visited_all, here_all}, Tracing.{begun_with, traced, traced_all, traced_from}, Shortening.{covers, is_left_out, by_shorter_reason, shorter_state, shorter_visited_all}, Shown.{IsFitted, IsFinished, HasWalkRoom, AreWithin, ClausesWithin, EntriesWithin, last_of}};
 
 use crate::flags::Flags;
@@ -55,9 +55,9 @@ impl Work {
         }
     }
 
-    /// Makes room for the variables below this bound, which is at most 65,537. What was found stays.
+    /// Makes room for the variables below this bound, each of which a literal can be of. What was found stays.
     pub fn fit(&mut self, bound: u32) -> Result<(), AllocError>
-        requires { bound ≤ 65537 }
+        requires { bound ≤ greatest_variable + 1 }
         ensures room { OnOk result (bound ≤ self.new.room) }
         ensures more { self.old.room ≤ self.new.room }
         ensures most { self.new.room ≤ max self.old.room bound }
@@ -340,7 +340,9 @@ impl Work {
               hints = [];
               level = 0;
             }) }
-        ensures fits { IsFitted self.old.room (length self.old.state.seen) (length self.old.state.here) 65537 65537 }
+        ensures fits { IsFitted
+            self.old.room (length self.old.state.seen) (length self.old.state.here)
+            (greatest_variable + 1) (greatest_variable + 1) }
         ensures room { self.new.room ≡ self.old.room }
     {
         self.seen.clear();
@@ -374,7 +376,9 @@ impl Work {
                   ∷ [];
               level = 0;
             }) }
-        ensures fits { IsFitted self.old.room (length self.old.state.seen) (length self.old.state.here) 65537 65537 }
+        ensures fits { IsFitted
+            self.old.room (length self.old.state.seen) (length self.old.state.here)
+            (greatest_variable + 1) (greatest_variable + 1) }
         ensures room { self.new.room ≡ self.old.room }
     {
         self.forget();
@@ -389,7 +393,9 @@ impl Work {
         ensures state { self.new.state ≡ begun_with (length self.old.state.seen) (length self.old.state.here) literal }
         ensures lits { self.new.state.lits ≡ literal ∷ [] }
         ensures hints { self.new.state.hints ≡ [] }
-        ensures fits { IsFitted self.old.room (length self.old.state.seen) (length self.old.state.here) 65537 65537 }
+        ensures fits { IsFitted
+            self.old.room (length self.old.state.seen) (length self.old.state.here)
+            (greatest_variable + 1) (greatest_variable + 1) }
         ensures room { self.new.room ≡ self.old.room }
     {
         self.forget();

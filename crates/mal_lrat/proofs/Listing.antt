@@ -25,7 +25,7 @@ one-each (w ∷ ws) = with-word (number_said (number_in w greatest_id)) (length 
     with-word (Some z) n None h = tt
     with-word (Some z) n (Some zs) h = ap suc h
 
--- behind the first 0 only whether there are more numbers counts, and whether one of them is negative
+-- after the first 0 only whether there are more numbers counts, and whether one of them is negative
 behind-zero : (ids : List ℕ) (before after : Bool) (n : ℕ) (o : Option (List ℤ)) → HasLength n o → option_map (negative_behind before) o ≡ Some after → continued ids before (option_map listed (before_all (Some (pos 0)) o)) ≡ Some (record { ids = ids; negative = after; closed = n == 0 })
 behind-zero ids before after n None h e = absurd (cc)
 behind-zero ids before after n (Some zs) h e =
@@ -37,7 +37,7 @@ closed-list ids before after rows ws (pos zero) e k h = ap (λ (o : Option (List
 closed-list ids before after rows ws (pos (suc m)) e k h = absurd (cc)
 closed-list ids before after rows ws (negsuc m) e k h = absurd (cc)
 
--- a number above 0 is the last of those before, or the first of those behind
+-- a number above 0 is the last of those before, or the first of those after
 abbrev with_ids : List ℕ → List ℤ → Option Listed
 with_ids ids zs = Some (record { ids = ids; negative = list_any is_negative zs; closed = are_closed zs })
 

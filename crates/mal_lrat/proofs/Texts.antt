@@ -12,17 +12,17 @@ spaced-map : {A : Type 0} (word : A → List ℕ) (xs : List A) → spaced (map 
 spaced-map word [] = refl
 spaced-map word (x ∷ xs) = ap (λ (rest : List ℕ). (32 ∷ word x) ++ rest) (spaced-map word xs)
 
--- words of a list, and a 0 behind them
+-- words of a list, and a 0 after them
 pub closed-written : {A : Type 0} (word : A → List ℕ) (old now new : List ℕ) (xs : List A) (n : ℕ) → length xs ≤ n → now ≡ old ++ flat_map (λ x. 32 ∷ word x) (take n xs) → new ≡ now ++ 32 ∷ codes "0" → new ≡ old ++ spaced (map word xs ++ codes "0" ∷ [])
 closed-written word old now new xs n all so_far last =
     let whole : now ≡ old ++ spaced (map word xs) = so_far ∙ (ap (λ (ys : List _). old ++ flat_map (λ x. 32 ∷ word x) ys) (take_all n xs all) ∙ ap (λ (t : List ℕ). old ++ t) (sym (spaced-map word xs))) in
     last ∙ (ap (λ (t : List ℕ). t ++ 32 ∷ codes "0") whole ∙ (append_assoc old (spaced (map word xs)) (32 ∷ codes "0") ∙ ap (λ (t : List ℕ). old ++ t) (sym (flat_map-append (λ w. 32 ∷ w) (map word xs) (codes "0" ∷ [])))))
 
--- a first word and a list of words, behind what a text has already
+-- a first word and a list of words, after what a text has already
 behind-word : (old word text0 text1 : List ℕ) (a : List (List ℕ)) → text0 ≡ old ++ word → text1 ≡ text0 ++ spaced a → text1 ≡ old ++ (word ++ spaced a)
 behind-word old word text0 text1 a d e = e ∙ (ap (λ (t : List ℕ). t ++ spaced a) d ∙ append_assoc old word (spaced a))
 
--- a line of a first word and two lists of words, behind what a text has already
+-- a line of a first word and two lists of words, after what a text has already
 pub line-written : (old word text0 text1 text2 text3 : List ℕ) (a b : List (List ℕ)) → text0 ≡ old ++ word → text1 ≡ text0 ++ spaced a → text2 ≡ text1 ++ spaced b → text3 ≡ text2 ++ 10 ∷ [] → text3 ≡ old ++ line_of (word ∷ (a ++ b))
 line-written old word text0 text1 text2 text3 a b d e f g =
     let first : text1 ≡ old ++ (word ++ spaced a) = behind-word old word text0 text1 a d e in

@@ -5,7 +5,7 @@ use Rattle.mal_lrat.specs.declared.fault.LineFault.TheVariants as answer
 use Rattle.spec_lrat.specs.Reading.{Fault, before_all, numbers_of}
 use Rattle.spec_lrat.specs.Reading.Fault.{BadNumber, MissingZero, IdNotRising, NegativeHint}
 
--- an answer other than want of memory is this fault
+-- an answer other than out of memory is this fault
 abbrev pub Fails : {Y : Type 0} → LineFault → Result Y Fault → Type 0
 Fails answer.BadNumber read = read ≡ Err BadNumber
 Fails answer.MissingZero read = read ≡ Err MissingZero
@@ -30,8 +30,8 @@ abbrev pub GivesWords : {X Y : Type 0} → (X → Y) → Result X LineFault → 
 GivesWords view (Ok x) read = read ≡ Some (view x)
 GivesWords view (Err e) read = FailsWords e read
 
--- what a function answered of a line's first number, seen by these two views: none where there is no word, else a number
--- and the words behind it
+-- what a function answered of a line's first number, seen by these two views: none where there is no word, else a
+-- number and the words after it
 abbrev pub CutsNumber : {X : Type 0} → (X → ℤ) → (X → List (List ℕ)) → Result (Option X) LineFault → List (List ℕ) → Type 0
 CutsNumber number behind (Ok None) words = words ≡ []
 CutsNumber number behind (Ok (Some cut)) words = numbers_of words ≡ before_all (Some (number cut)) (numbers_of (behind cut))

@@ -2,6 +2,7 @@
 use Rattle.std.specs.Prelude.{ℕ, Bool, ◌||◌, List, ◌++◌, ℤ, nat_le, if◌then◌else◌, Option, Some, None, Result, Ok, Err}
 use Rattle.std.specs.List.{list_any}
 use Rattle.std.specs.Option.{option_map}
+use Rattle.mal_base.specs.Limits.{limits}
 use Rattle.spec_text.specs.Numbers.{number_in}
 use Rattle.spec_logic.specs.Refutation.{ProofLine}
 use Rattle.spec_logic.specs.Refutation.ProofLine.{Add}
@@ -45,6 +46,6 @@ adding_listed last id lits hints =
     Ok (Add id (clause_of lits) hints.ids))
     else Err MissingZero
 
--- what a word says where a literal or the 0 behind the literals is wanted
+-- what a word says where a literal or the 0 after the literals is wanted
 abbrev pub literal_or_end : List ℕ → Option (Option ℕ)
-literal_or_end word = if is_end word then Some None else option_map Some (literal_said (number_in word 65536))
+literal_or_end word = if is_end word then Some None else option_map Some (literal_said (number_in word limits.variables))

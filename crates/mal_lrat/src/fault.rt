@@ -9,11 +9,11 @@ use thiserror::Error;
 /// Why a text is no line of a proof.
 #[derive(Clone, Copy, Debug, PartialEq, Eq, Drop, Error)]
 pub enum LineFault {
-    /// A word says no number, an id is below 1 or above 2^62, a hint is above 2^62, or a literal has no variable up to
-    /// 65,536.
+    /// A word says no number, an id is below 1 or above 2^62, a hint is above 2^62, or a literal has no variable that is
+    /// served.
     #[error("bad number")]
     BadNumber,
-    /// The words behind the id are not two lists that end with a 0, or one list behind `d`.
+    /// The words after the id are not two lists that end with a 0, or one list after `d`.
     #[error("missing zero")]
     MissingZero,
     /// The id of an added clause is not above the last one.

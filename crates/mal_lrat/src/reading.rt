@@ -10,7 +10,7 @@ ghost use Rattle.mal_lrat.specs.{LineView.{seen}, IdLists.{listing, list_said, c
 
 use crate::fault::LineFault;
 use crate::line::Line;
-use mal_base::{Clause, ClauseId, Lit};
+use mal_base::{Clause, ClauseId, LIMITS, Lit};
 use mal_text::{first_word, number, number_in_front};
 use std::alloc::{AllocError, Global};
 
@@ -44,7 +44,7 @@ pub fn read_line(alloc: Global, line: &[u8], last: u64) -> Result<Line, LineFaul
     line_of(alloc, behind_l(line), last)
 }
 
-/// The words behind a leading word `l`.
+/// The words after a leading word `l`.
 fn behind_l(words: &[u8]) -> &[u8]
     ensures { words_of result.now ≡ behind_l (words_of words.now) }
 {
@@ -73,7 +73,7 @@ fn line_of(alloc: Global, words: &[u8], last: u64) -> Result<Line, LineFault>
     }
 }
 
-/// The line of an id and the words behind it.
+/// The line of an id and the words after it.
 fn behind_id(alloc: Global, id: ClauseId, words: &[u8], last: u64) -> Result<Line, LineFault>
     ensures { Gives seen result (behind_id last id (words_of words.now)) }
 {
@@ -107,7 +107,7 @@ fn deletion(alloc: Global, words: &[u8]) -> Result<Line, LineFault>
 fn addition(alloc: Global, id: ClauseId, words: &[u8], last: u64) -> Result<Line, LineFault>
     ensures { Gives seen result (added last id (words_of words.now)) }
 {
-    // Judged word by word first: words up to the first 0 are literals, those behind it hints, also where the line has
+    // Judged word by word first: words up to the first 0 are literals, those after it hints, also where the line has
     // no right form.
     let (lits, hint_words) = literals(alloc, words)?;
     let hints = id_list(alloc, hint_words)?;
@@ -171,13 +171,13 @@ fn id_in(word: &[u8]) -> Option<ClauseId>
 fn literal_in(word: &[u8]) -> Result<Option<Lit>, LineFault>
     ensures { GivesWords (λ lit. lit) result (literal_or_end word.now) }
 {
-    match number(word, 65_536) {
+    match number(word, u64::from(LIMITS.variables)) {
         Ok(number) => Ok(Lit::of_dimacs(number as i32)),
         Err(_) => Err(LineFault::BadNumber),
     }
 }
 
-/// The literals that the words before the first 0 say, and the words behind it.
+/// The literals that the words before the first 0 say, and the words after it.
 fn literals(alloc: Global, words: &[u8]) -> Result<(Vec<Lit>, &[u8]), LineFault>
     ensures lits { GivesWords (λ r. r.0.items) result (literals_of (before_end (words_of words.now))) }
     ensures behind { IfOk result (λ r. words_of r.1.now ≡ behind_end (words_of words.now)) }
@@ -228,7 +228,7 @@ fn id_list(alloc: Global, words: &[u8]) -> Result<IdList, LineFault>
     })
 }
 
-/// Puts the ids that words begin with behind others, as long as each is written as most are, and gives the words behind
+/// Puts the ids that words begin with after others, as long as each is written as most are, and gives the words after
 /// them. All that is not written so is left to the readers of any number.
 fn plain_ids<'a>(ids: &mut Vec<ClauseId>, words: &'a [u8]) -> Result<&'a [u8], AllocError>
     ensures { IfOk result (λ rest. continued ids.new.items false (list_said (words_of rest.now))
@@ -248,8 +248,8 @@ fn plain_ids<'a>(ids: &mut Vec<ClauseId>, words: &'a [u8]) -> Result<&'a [u8], A
     Ok(rest)
 }
 
-/// The number that a line begins with, where it is above 0 and not large and has digits alone and a space behind them, and
-/// the line behind the space. None says nothing of the line.
+/// The number that a line begins with, where it is above 0 and not large and has digits alone and a space after them,
+/// and the line after the space. None says nothing of the line.
 fn plain_number(line: &[u8]) -> Option<(u64, &[u8])>
     ensures number { IfSome result (λ cut. BeginsWithDigits line.now cut.0 cut.1.now) }
     ensures bound { IfSome result (λ cut. cut.0 ≤ 2 ^ 62) }
@@ -291,7 +291,7 @@ fn has_negative_behind(before: bool, words: &[u8]) -> Result<bool, LineFault>
     Ok(has_negative)
 }
 
-/// The number with a magnitude up to 2^62 that the first word of a line says, and the line behind the word. None for a
+/// The number with a magnitude up to 2^62 that the first word of a line says, and the line after the word. None for a
 /// line of blanks alone.
 fn first_number(line: &[u8]) -> Result<Option<(i64, &[u8])>, LineFault>
     ensures number { CutsNumber (λ cut. cut.0) (λ cut. words_of cut.1.now) result (words_of line.now) }

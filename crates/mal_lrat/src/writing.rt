@@ -108,7 +108,7 @@ fn put_first_id(out: &mut Vec<u8>, id: ClauseId) -> Result<(), AllocError>
     Ok(())
 }
 
-/// Writes literals and a 0, each behind a space. Where memory is refused nothing is written.
+/// Writes literals and a 0, each after a space. Where memory is refused nothing is written.
 pub fn put_lits(out: &mut Vec<u8>, lits: &[Lit]) -> Result<(), AllocError>
     ensures written { OnOk result (out.new.items ≡ out.old.items ++ spaced (words_of_lits lits.now)) }
     ensures unchanged { OnErr result (out.new.items ≡ out.old.items) }
@@ -123,7 +123,7 @@ pub fn put_lits(out: &mut Vec<u8>, lits: &[Lit]) -> Result<(), AllocError>
     }
 }
 
-/// Writes literals and a 0, each behind a space, or, where memory is refused, some of the first.
+/// Writes literals and a 0, each after a space, or, where memory is refused, some of the first.
 fn append_lits(out: &mut Vec<u8>, lits: &[Lit]) -> Result<(), AllocError>
     ensures written { OnOk result (out.new.items ≡ out.old.items ++ spaced (words_of_lits lits.now)) }
     ensures kept { OnErr result (StartsWith out.new.items out.old.items) }
@@ -145,7 +145,7 @@ fn put_lit(out: &mut Vec<u8>, lit: Lit) -> Result<(), AllocError>
     Ok(())
 }
 
-/// Writes ids and a 0, each behind a space, or, where memory is refused, some of the first.
+/// Writes ids and a 0, each after a space, or, where memory is refused, some of the first.
 fn put_ids(out: &mut Vec<u8>, ids: &[ClauseId]) -> Result<(), AllocError>
     ensures written { OnOk result (out.new.items ≡ out.old.items ++ spaced (words_of_ids ids.now)) }
     ensures kept { OnErr result (StartsWith out.new.items out.old.items) }

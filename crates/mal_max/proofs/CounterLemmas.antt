@@ -6,7 +6,7 @@ use Rattle.spec_max.specs.Counter.{adds, carries, counted, row, rows}
 add-one : (m : ℕ) → m + 1 ≡ suc m
 add-one m = omega arith
 
--- a clause that is put behind others is the first of those that are left
+-- a clause that is put after others is the first of those that are left
 clause-next : (old clauses new left : List (Option (List ℕ))) (x : List ℕ) (rest : List (Option (List ℕ))) → new ≡ clauses ++ Some x ∷ [] → left ≡ Some x ∷ rest → clauses ++ left ≡ old → new ++ rest ≡ old
 clause-next old clauses new left x rest a b c =
     ap (λ (cs : List (Option (List ℕ))). cs ++ rest) a

@@ -3,6 +3,7 @@ use Rattle.std.proofs.Common.{◌≡◌, ℕ, ◌≤◌, Bool, true, false, cond
 use Rattle.std.specs.Prelude.{IfOk}
 use Rattle.std.proofs.lemmas.Bool.{and_from, leb-true, le-leb}
 use Rattle.std.proofs.lemmas.Bool.Decides.{nat_tests}
+use Rattle.mal_base.specs.Limits.{limits}
 use Rattle.mal_base.specs.Formulas.{Formulated, is_within_limits, literals_of}
 use Rattle.mal_base.specs.declared.limit_kind.LimitKind.TheVariants.{Variables, Clauses, Literals}
 use Rattle.mal_base.specs.declared.line_fault.LineFault.{LineFault}
@@ -45,11 +46,11 @@ no_more m n low = grind (arith, nat_tests)
 
 limits-pass : (w : Instance) → is_within_limits (variables_in w) (clauses_in w) ≡ true → limited w ≡ Ok w.softs
 limits-pass w h =
-    let both = and-left (nat_le (variables_in w) 65536 && nat_le (length (clauses_in w)) 1048576) (nat_le (literals_of (clauses_in w)) 16777216) h in
-    let first = and-left (nat_le (variables_in w) 65536) (nat_le (length (clauses_in w)) 1048576) both.0 in
-    by_tests (nat_lt 65536 (variables_in w)) (not_more 65536 (variables_in w) (leb-true (variables_in w) 65536 first.0))
-    (nat_lt 1048576 (length (clauses_in w))) (not_more 1048576 (length (clauses_in w)) (leb-true (length (clauses_in w)) 1048576 first.1))
-    (nat_lt 16777216 (literals_of (clauses_in w))) (not_more 16777216 (literals_of (clauses_in w)) (leb-true (literals_of (clauses_in w)) 16777216 both.1))
+    let both = and-left (nat_le (variables_in w) limits.variables && nat_le (length (clauses_in w)) limits.clauses) (nat_le (literals_of (clauses_in w)) limits.literals) h in
+    let first = and-left (nat_le (variables_in w) limits.variables) (nat_le (length (clauses_in w)) limits.clauses) both.0 in
+    by_tests (nat_lt limits.variables (variables_in w)) (not_more limits.variables (variables_in w) (leb-true (variables_in w) limits.variables first.0))
+    (nat_lt limits.clauses (length (clauses_in w))) (not_more limits.clauses (length (clauses_in w)) (leb-true (length (clauses_in w)) limits.clauses first.1))
+    (nat_lt limits.literals (literals_of (clauses_in w))) (not_more limits.literals (literals_of (clauses_in w)) (leb-true (literals_of (clauses_in w)) limits.literals both.1))
   where
     by_tests : (a : Bool) → a ≡ false → (b : Bool) → b ≡ false → (c : Bool) → c ≡ false
         → cond a (Err (Wrong (Limit Variables))) (cond b (Err (Wrong (Limit Clauses))) (cond c (Err (Wrong (Limit Literals))) (softs_read w.softs))) ≡ Ok w.softs
@@ -60,12 +61,12 @@ limits-pass w h =
 
 pass-limits : (w : Instance) (found : List ℕ) → limited w ≡ Ok found → (is_within_limits (variables_in w) (clauses_in w) ≡ true) × (w.softs ≡ found)
 pass-limits w found e =
-    let literals : Result (List ℕ) LitsFault = cond (nat_lt 16777216 (literals_of (clauses_in w))) (Err (Wrong (Limit Literals))) (softs_read w.softs) in
-    let clauses : Result (List ℕ) LitsFault = cond (nat_lt 1048576 (length (clauses_in w))) (Err (Wrong (Limit Clauses))) literals in
-    let a = not_refused (nat_lt 65536 (variables_in w)) clauses (Wrong (Limit Variables)) found e in
-    let b = not_refused (nat_lt 1048576 (length (clauses_in w))) literals (Wrong (Limit Clauses)) found a.1 in
-    let c = not_refused (nat_lt 16777216 (literals_of (clauses_in w))) (softs_read w.softs) (Wrong (Limit Literals)) found b.1 in
-    (and_from _ _ (and_from _ _ (le-leb (variables_in w) 65536 (no_more 65536 (variables_in w) a.0)) (le-leb (length (clauses_in w)) 1048576 (no_more 1048576 (length (clauses_in w)) b.0))) (le-leb (literals_of (clauses_in w)) 16777216 (no_more 16777216 (literals_of (clauses_in w)) c.0)), ok_is w.softs found c.1)
+    let literals : Result (List ℕ) LitsFault = cond (nat_lt limits.literals (literals_of (clauses_in w))) (Err (Wrong (Limit Literals))) (softs_read w.softs) in
+    let clauses : Result (List ℕ) LitsFault = cond (nat_lt limits.clauses (length (clauses_in w))) (Err (Wrong (Limit Clauses))) literals in
+    let a = not_refused (nat_lt limits.variables (variables_in w)) clauses (Wrong (Limit Variables)) found e in
+    let b = not_refused (nat_lt limits.clauses (length (clauses_in w))) literals (Wrong (Limit Clauses)) found a.1 in
+    let c = not_refused (nat_lt limits.literals (literals_of (clauses_in w))) (softs_read w.softs) (Wrong (Limit Literals)) found b.1 in
+    (and_from _ _ (and_from _ _ (le-leb (variables_in w) limits.variables (no_more limits.variables (variables_in w) a.0)) (le-leb (length (clauses_in w)) limits.clauses (no_more limits.clauses (length (clauses_in w)) b.0))) (le-leb (literals_of (clauses_in w)) limits.literals (no_more limits.literals (literals_of (clauses_in w)) c.0)), ok_is w.softs found c.1)
 
 -- ---- words say soft literals exactly where reading gives them
 
@@ -74,20 +75,20 @@ softs-read f words found = (there, back)
   where
     there : SaySofts f words found → softs_of f words ≡ Ok found
     there s =
-        ap (λ (r : Result (List ℕ) LineFault). wrong r >>= at_most 128 >>= λ softs. limited (with_softs f softs)) (say-read f.variables words found (record { says = s.closed; within = s.within }))
-        ∙ ap (λ (r : Result (List ℕ) LitsFault). r >>= λ softs. limited (with_softs f softs)) (few-at_most 128 found s.few)
+        ap (λ (r : Result (List ℕ) LineFault). wrong r >>= at_most limits.softs >>= λ softs. limited (with_softs f softs)) (say-read f.variables words found (record { says = s.closed; within = s.within }))
+        ∙ ap (λ (r : Result (List ℕ) LitsFault). r >>= λ softs. limited (with_softs f softs)) (few-at_most limits.softs found s.few)
         ∙ limits-pass (with_softs f found) s.limits
 
     back : softs_of f words ≡ Ok found → SaySofts f words found
     back e =
         let raw : Result (List ℕ) LineFault = literals_from [] false (map (λ w. number_in w f.variables) words) in
-        let a = bind_ok (wrong raw >>= at_most 128) (λ softs. limited (with_softs f softs)) found e in
-        let b = bind_ok (wrong raw) (at_most 128) a.0 a.1 in
-        let few = at_most-few 128 b.0 a.0 b.2 in
-        let limits = pass-limits (with_softs f a.0) found a.2 in
+        let a = bind_ok (wrong raw >>= at_most limits.softs) (λ softs. limited (with_softs f softs)) found e in
+        let b = bind_ok (wrong raw) (at_most limits.softs) a.0 a.1 in
+        let few = at_most-few limits.softs b.0 a.0 b.2 in
+        let within = pass-limits (with_softs f a.0) found a.2 in
         let read : raw ≡ Ok a.0 = wrong_ok raw b.0 b.1 ∙ ap (λ (ls : List ℕ). Ok ls) few.1 in
         let say = read-say f.variables words a.0 read in
-        subst (λ (ls : List ℕ). SaySofts f words ls) limits.1 (record { closed = say.says; within = say.within; few = subst (λ (ls : List ℕ). length ls ≤ 128) few.1 few.0; limits = limits.0 })
+        subst (λ (ls : List ℕ). SaySofts f words ls) within.1 (record { closed = say.says; within = say.within; few = subst (λ (ls : List ℕ). length ls ≤ limits.softs) few.1 few.0; limits = within.0 })
 
 abbrev lits_of : Instance → lits.Instance
 lits_of w = record { formula = w.formula; literals = w.softs }

@@ -1,5 +1,6 @@
 -- Reading a formula and the line of soft literals after it: the instance, or the first fault.
 use Rattle.std.specs.Prelude.{ℕ, false, List, [], length, map, codes, nat_lt, if◌then◌else◌, Result, Ok, Err}
+use Rattle.mal_base.specs.Limits.{limits}
 use Rattle.mal_base.specs.Formulas.{Formulated, literals_of}
 use Rattle.mal_base.specs.declared.limit_kind.LimitKind.TheVariants.{Variables, Clauses, Literals}
 use Rattle.mal_base.specs.declared.line_fault.LineFault.TheVariants.{Limit}
@@ -17,14 +18,14 @@ word = codes "w"
 -- soft literals with which formula and counter are within the limits; else the first limit that they pass
 abbrev pub limited : Instance → Result (List ℕ) LitsFault
 limited w =
-    if nat_lt 65536 (variables_in w) then Err (Wrong (Limit Variables))
-    else if nat_lt 1048576 (length (clauses_in w)) then Err (Wrong (Limit Clauses))
-    else if nat_lt 16777216 (literals_of (clauses_in w)) then Err (Wrong (Limit Literals))
+    if nat_lt limits.variables (variables_in w) then Err (Wrong (Limit Variables))
+    else if nat_lt limits.clauses (length (clauses_in w)) then Err (Wrong (Limit Clauses))
+    else if nat_lt limits.literals (literals_of (clauses_in w)) then Err (Wrong (Limit Literals))
     else Ok w.softs
 
 -- the literals of the words after that one, in their order and with repeats: 128 at most
 abbrev pub literals_in : Formulated → List (List ℕ) → Result (List ℕ) LitsFault
-literals_in f words = wrong (literals_from [] false (map (λ w. number_in w f.variables) words)) >>= at_most 128
+literals_in f words = wrong (literals_from [] false (map (λ w. number_in w f.variables) words)) >>= at_most limits.softs
 
 -- soft literals are those with which the limits are kept
 abbrev pub softs_of : Formulated → List (List ℕ) → Result (List ℕ) LitsFault

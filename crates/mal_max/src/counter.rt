@@ -1,6 +1,7 @@
-//! The counter of the soft literals that are false, behind the clauses of a formula.
+//! The counter of the soft literals that are false, after the clauses of a formula.
 
 ghost use Rattle.std.specs.Prelude.{◌≡◌, ◌+◌, ◌-◌, ◌*◌, ◌/◌, ◌<◌, ◌≤◌, false, true, ◌∷◌, ◌++◌, [], length, IfOk, OnOk};
+ghost use Rattle.mal_base.specs.Limits.{limits};
 ghost use Rattle.mal_base.specs.{Formulas.{is_within}, Literals.{literal}};
 ghost use Rattle.spec_max.specs.{Counter.{adds, carries, counted, counter, row, starts, variables_with}, Optimum.{clauses_in}};
 ghost use Rattle.mal_max.specs.Seen.{instance};
@@ -9,7 +10,7 @@ use mal_base::{ClauseList, Formula, Lit, Var};
 use mal_inquiry::copied;
 use std::alloc::{AllocError, Global};
 
-/// The clauses of a formula, and behind them those of the counter of soft literals, 128 at most, which are of its
+/// The clauses of a formula, and after them those of the counter of soft literals, 128 at most, which are of its
 /// variables; with the counter's there are at most 65,536.
 pub fn with_counter(
     alloc: Global,
@@ -17,8 +18,8 @@ pub fn with_counter(
     softs: &[Lit],
 ) -> Result<ClauseList, AllocError>
     requires within { is_within formula.now.variables softs.now ≡ true }
-    requires few { length softs.now ≤ 128 }
-    requires bound { variables_with formula.now.variables softs.now ≤ 65536 }
+    requires few { length softs.now ≤ limits.softs }
+    requires bound { variables_with formula.now.variables softs.now ≤ limits.variables }
     ensures { IfOk result (λ c. c ≡ clauses_in (instance formula.now softs.now)) }
 {
     let mut clauses = copied(alloc, formula.clauses())?;
@@ -26,15 +27,15 @@ pub fn with_counter(
     Ok(clauses)
 }
 
-/// Puts the counter of these literals of so many variables behind other clauses.
+/// Puts the counter of these literals of so many variables after other clauses.
 pub fn push_counter(
     clauses: &mut ClauseList,
     variables: u32,
     softs: &[Lit],
 ) -> Result<(), AllocError>
     requires within { is_within variables softs.now ≡ true }
-    requires few { length softs.now ≤ 128 }
-    requires bound { variables_with variables softs.now ≤ 65536 }
+    requires few { length softs.now ≤ limits.softs }
+    requires bound { variables_with variables softs.now ≤ limits.variables }
     ensures { OnOk result (clauses.new ≡ clauses.old ++ counter variables softs.now) }
 {
     let Some((first, rest)) = softs.split_first() else {
@@ -56,14 +57,14 @@ pub fn push_counter(
 pub struct Counter {
     variables: u32,
     count: u32,
-    ghost bound: { variables + count * count ≤ 65536 },
+    ghost bound: { variables + count * count ≤ limits.variables },
 }
 
 impl Counter {
-    /// The counter of these literals behind so many variables.
+    /// The counter of these literals after so many variables.
     pub fn of(variables: u32, softs: &[Lit]) -> Counter
-        requires few { length softs.now ≤ 128 }
-        requires bound { variables_with variables softs.now ≤ 65536 }
+        requires few { length softs.now ≤ limits.softs }
+        requires bound { variables_with variables softs.now ≤ limits.variables }
         ensures variables { result.variables ≡ variables }
         ensures count { result.count ≡ length softs.now }
     {
@@ -100,7 +101,7 @@ impl Counter {
         Var::of(self.variables + (i - 1) * self.count + j).literal(positive)
     }
 
-    /// Puts the clause `lit s(i, 1)` behind others.
+    /// Puts the clause `lit s(i, 1)` after others.
     fn push_start(self, clauses: &mut ClauseList, i: u32, lit: Lit) -> Result<(), AllocError>
         requires some_row { 1 ≤ i }
         requires row_bound { i ≤ self.count }
@@ -110,7 +111,7 @@ impl Counter {
         clauses.push_rising(&[lit, self.output(i, 1, true)])
     }
 
-    /// Puts the clauses `-s(i, j) s(i + 1, j)` behind others.
+    /// Puts the clauses `-s(i, j) s(i + 1, j)` after others.
     fn push_carries(self, clauses: &mut ClauseList, i: u32) -> Result<(), AllocError>
         requires some_row { 1 ≤ i }
         requires row_bound { i < self.count }
@@ -122,7 +123,7 @@ impl Counter {
         Ok(())
     }
 
-    /// Puts the clauses `lit -s(i, j) s(i + 1, j + 1)` behind others.
+    /// Puts the clauses `lit -s(i, j) s(i + 1, j + 1)` after others.
     fn push_adds(self, clauses: &mut ClauseList, i: u32, lit: Lit) -> Result<(), AllocError>
         requires some_row { 1 ≤ i }
         requires row_bound { i < self.count }
@@ -136,7 +137,7 @@ impl Counter {
         Ok(())
     }
 
-    /// Puts row i + 1, that of this literal, behind others.
+    /// Puts row i + 1, that of this literal, after others.
     fn push_row(self, clauses: &mut ClauseList, i: u32, lit: Lit) -> Result<(), AllocError>
         requires some_row { 1 ≤ i }
         requires row_bound { i < self.count }

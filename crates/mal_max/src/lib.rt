@@ -14,7 +14,6 @@ mod solution;
 mod telling;
 mod text;
 
-pub use counter::with_counter;
 pub use input::Instance;
 pub use input_laws::{input_examples, spelled_is_read, spelled_is_served};
 pub use max_laws::text_examples;

@@ -1,6 +1,7 @@
 //! Reading a formula and the line of soft literals after it.
 
 ghost use Rattle.std.specs.Prelude.{◌≡◌, ◌<◌, ◌≤◌, ◌+◌, ◌^◌, ◌++◌, true, drop, length, nat_lt, IfOk};
+ghost use Rattle.mal_base.specs.Limits.{limits};
 ghost use Rattle.mal_base.specs.Formulas.{is_within, literals_of};
 ghost use Rattle.mal_base.specs.declared.line_fault.LineFault.TheVariants.{Limit};
 ghost use Rattle.spec_text.specs.Inputs.{words_of};
@@ -12,7 +13,7 @@ ghost use Rattle.mal_max.specs.{Reading.{limited, literals_in, read_text, softs_
 
 use crate::counter::push_counter;
 use crate::input::Instance;
-use mal_base::{ClauseList, Formula, LimitKind, LineFault, Lit};
+use mal_base::{ClauseList, Formula, LIMITS, LimitKind, LineFault, Lit};
 use mal_instance::{InputFault, LitsError, Opened, ended, read_opening};
 use mal_script::literals;
 use mal_text::first_word;
@@ -73,7 +74,7 @@ fn line_softs(alloc: Global, row: &[u8], formula: &Formula) -> Result<Vec<Lit>, 
 fn line_literals(alloc: Global, row: &[u8], formula: &Formula) -> Result<Vec<Lit>, LitsError>
     ensures value { GivesLits (λ v. v.items) result (literals_in formula.now (drop 1 (words_of row.now))) }
     ensures within { IfOk result (λ v. is_within formula.now.variables v.items ≡ true) }
-    ensures few { IfOk result (λ v. length v.items ≤ 128) }
+    ensures few { IfOk result (λ v. length v.items ≤ limits.softs) }
 {
     let Some((_, words)) = first_word(row) else {
         return Err(LitsError::Wrong {
@@ -81,7 +82,7 @@ fn line_literals(alloc: Global, row: &[u8], formula: &Formula) -> Result<Vec<Lit
         });
     };
     let lits = literals(alloc, words, formula.variables())?;
-    if lits.len() > 128 {
+    if lits.len() > LIMITS.softs {
         return Err(LitsError::Exceeds);
     }
     Ok(lits)
@@ -90,11 +91,11 @@ fn line_literals(alloc: Global, row: &[u8], formula: &Formula) -> Result<Vec<Lit
 /// These soft literals, where formula and counter are within the limits.
 fn within_limits(alloc: Global, formula: &Formula, softs: Vec<Lit>) -> Result<Vec<Lit>, LitsError>
     requires within { is_within formula.now.variables softs.items ≡ true }
-    requires few { length softs.items ≤ 128 }
+    requires few { length softs.items ≤ limits.softs }
     ensures { GivesLits (λ v. v.items) result (limited (record { formula = formula.now; softs = softs.items })) }
 {
     let count = softs.len() as u32;
-    if formula.variables() + count * count > 65_536 {
+    if formula.variables() + count * count > LIMITS.variables {
         return Err(over(LimitKind::Variables));
     }
     let mut counter = ClauseList::new(alloc);
@@ -119,14 +120,14 @@ fn over(which: LimitKind) -> LitsError
 
 /// Whether a formula and more clauses are more clauses than may be.
 fn has_more_clauses(formula: &Formula, more: &ClauseList) -> bool
-    ensures { result ≡ nat_lt 1048576 (length (formula.now.clauses ++ more.now)) }
+    ensures { result ≡ nat_lt limits.clauses (length (formula.now.clauses ++ more.now)) }
 {
-    more.len() > 1_048_576 - formula.clauses().len()
+    more.len() > LIMITS.clauses - formula.clauses().len()
 }
 
 /// Whether a formula and more clauses have more literals than may be.
 fn has_more_literals(formula: &Formula, more: &ClauseList) -> bool
-    ensures { result ≡ nat_lt 16777216 (literals_of (formula.now.clauses ++ more.now)) }
+    ensures { result ≡ nat_lt limits.literals (literals_of (formula.now.clauses ++ more.now)) }
 {
-    more.literals() > 16_777_216 - formula.literals() as usize
+    more.literals() > LIMITS.literals - formula.literals() as usize
 }

@@ -1,18 +1,16 @@
 //! The search for an optimum.
 
-ghost use Rattle.std.specs.Prelude.{◌≡◌, ◌+◌, ◌≤◌, ℕ, [], IfOk};
-ghost use Rattle.std.specs.Option.{option_map};
-ghost use Rattle.mal_base.specs.Asks.{Terms};
-ghost use Rattle.spec_course.specs.Course.Next.{Asks};
-ghost use Rattle.spec_inquiry.specs.{Rounds.{IsInquiry}, Searches.{IsUnderway, one_solver}};
-ghost use Rattle.spec_max.specs.{Optimum.{first, step}, Right.{IsServed}};
-ghost use Rattle.mal_max.specs.{Found.{IsFound, key}, Seen.{instance, next_of, seen, solution_of}};
+ghost use Rattle.std.specs.Prelude.{◌≡◌, ◌≤◌, codes, IfOk};
+ghost use Rattle.spec_max.specs.Right.{IsServed};
+ghost use Rattle.mal_base.specs.Limits.{limits};
+ghost use Rattle.mal_max.specs.{Found.{IsFound}, Seen.{instance, seen}};
 
-use crate::following::{Next, after};
+use crate::following::{concluded, improved};
 use crate::optimum::{Optimum, Solution};
 use crate::questions::opening;
-use mal_base::{Ask, Formula, Lit, Name};
-use mal_inquiry::Inquiry;
+use crate::solution::solution_in;
+use mal_base::{Formula, Lines, Lit, Name};
+use mal_inquiry::{Finding, Next, Search, run};
 use mal_learn::Scratch;
 use mal_revision::Revision;
 use std::alloc::{AllocError, Global};
@@ -30,80 +28,90 @@ pub fn solve(
 ) -> Result<Optimum, AllocError>
     requires served { IsServed (instance formula.now softs.now) }
     requires some { 1 ≤ slices }
-    requires bound { slices ≤ 4096 }
+    requires bound { slices ≤ limits.slices }
     ensures { IfOk result (λ o. IsFound slices (instance formula.now softs.now) (seen o)) }
 {
-    let mut inquiry = begin(alloc, slices)?;
-    search(alloc, &mut inquiry, formula, softs, scratch)
+    run(
+        alloc,
+        own_name(),
+        slices,
+        &Optimizing { formula, softs },
+        scratch,
+    )
 }
 
-/// The inquiry of a search, of which nothing was asked yet.
-fn begin(alloc: Global, slices: u32) -> Result<Inquiry, AllocError>
-    requires some { 1 ≤ slices }
-    requires bound { slices ≤ 4096 }
-    ensures key { IfOk result (λ i. i.key ≡ key) }
-    ensures inquiry { IfOk result (λ i. IsInquiry key (one_solver slices) [] i.events) }
+/// The name of the job of a search, and of its tenant.
+fn own_name() -> Name
+    ensures { result ≡ codes "max" }
 {
     let Some(name) = Name::of(b"max") else {
         unreachable!();
     };
-    let Some(ask) = Ask::of(1, 1, i64::from(slices)) else {
-        unreachable!();
-    };
-    Inquiry::new(alloc, name, name, ask)
+    name
 }
 
-/// Asks question by question until the search ends.
-fn search(
-    alloc: Global,
-    inquiry: &mut Inquiry,
-    formula: &Formula,
-    softs: &[Lit],
-    scratch: &mut Scratch,
-) -> Result<Optimum, AllocError>
-    requires served { IsServed (instance formula.now softs.now) }
-    requires key { inquiry.old.key ≡ key }
-    requires new { (slices : ℕ) × IsInquiry key (one_solver slices) [] inquiry.old.events }
-    ensures { (slices : ℕ) → IsInquiry key (one_solver slices) [] inquiry.old.events
-        → IfOk result (λ o. IsFound slices (instance formula.now softs.now) (seen o)) }
-{
-    let mut best = None;
-    let mut question = opening(alloc, formula, softs)?;
-    for _ in 0..129_u32 {
-        match follow(alloc, inquiry, formula, softs, best, question, scratch)? {
-            Next::Asks {
-                best: found,
-                question: next,
-            } => {
-                best = Some(found);
-                question = next;
+/// A formula with soft literals, of which the optimum is searched for. A state is the best solution so far.
+#[derive(Drop)]
+struct Optimizing<'a> {
+    formula: &'a Formula,
+    softs: &'a [Lit],
+}
+
+impl Search for Optimizing<'_> {
+    ghost use Rattle.std.specs.Prelude.{◌≡◌, Option, None};
+    ghost use Rattle.std.specs.Option.{option_map};
+    ghost use Rattle.spec_max.specs.{Optimum.{concluded, opening, step}, Right.{IsServed}};
+    ghost use Rattle.spec_max.specs.Optimum as max;
+    ghost use Rattle.mal_max.specs.Seen.{instance, seen, solution_of};
+
+    type State = Option<Solution>;
+
+    type Proved = Option<Solution>;
+
+    type Outcome = Optimum;
+
+    ghost Stood = { Option max.Solution };
+
+    ghost Reached = { max.Optimum };
+
+    ghost stood = { λ proofs best. option_map solution_of best };
+
+    ghost proved = { λ best lines. concluded (option_map solution_of best) lines };
+
+    ghost reached = { seen };
+
+    ghost served = { λ w. IsServed (instance w.formula.now w.softs.now) };
+
+    ghost start = { λ w. None };
+
+    ghost question = { λ w. opening (instance w.formula.now w.softs.now) };
+
+    ghost step = { λ w. step (instance w.formula.now w.softs.now) };
+
+    fn first(&self, alloc: Global) -> Result<(Option<Solution>, Revision), AllocError> {
+        Ok((None, opening(alloc, self.formula, self.softs)?))
+    }
+
+    fn after(
+        &self,
+        alloc: Global,
+        state: Option<Solution>,
+        number: u32,
+        found: Finding,
+    ) -> Result<Next<Option<Solution>, Option<Solution>, Optimum>, AllocError> {
+        match found {
+            Finding::Model(model) => {
+                let better = solution_in(alloc, self.formula, self.softs, &model)?;
+                improved(alloc, self.formula, self.softs, better)
             }
-            Next::Ends(optimum) => return Ok(optimum),
+            Finding::Failed(_) => Ok(Next::Proves(state, number)),
+            Finding::Unknown(cause) => Ok(Next::Ends(Optimum::Unknown { best: state, cause })),
         }
     }
-    unreachable!()
-}
 
-/// Asks the question of a search, where this is the best solution so far, and gives what follows. After want of memory no
-/// more may be asked.
-fn follow(
-    alloc: Global,
-    inquiry: &mut Inquiry,
-    formula: &Formula,
-    softs: &[Lit],
-    best: Option<Solution>,
-    question: Revision,
-    scratch: &mut Scratch,
-) -> Result<Next, AllocError>
-    requires served { IsServed (instance formula.now softs.now) }
-    requires underway { (terms : Terms) × (n : ℕ) × IsUnderway inquiry.old.key terms (step (instance formula.now softs.now))
-        (first (instance formula.now softs.now)) n inquiry.old.events (Asks (option_map solution_of best) question) }
-    ensures key { inquiry.new.key ≡ inquiry.old.key }
-    ensures follows { (terms : Terms) (n : ℕ) → IsUnderway inquiry.old.key terms (step (instance formula.now softs.now))
-        (first (instance formula.now softs.now)) n inquiry.old.events (Asks (option_map solution_of best) question)
-        → IfOk result (λ next. IsUnderway inquiry.old.key terms (step (instance formula.now softs.now))
-        (first (instance formula.now softs.now)) (n + 1) inquiry.new.events (next_of next)) }
-{
-    let told = inquiry.ask(question, scratch)?;
-    after(alloc, formula, softs, best, told)
+    fn with_lines(outcome: Option<Solution>, lines: Lines) -> Optimum
+        ensures { seen result ≡ concluded (option_map solution_of outcome) lines.lines }
+    {
+        concluded(outcome, lines)
+    }
 }

@@ -2,6 +2,7 @@
 
 ghost use Rattle.std.specs.Prelude.{◌≡◌, ◌≤◌, length, take, IfOk};
 ghost use Rattle.spec_max.specs.{Cost.{cost}, Optimum.{solution_in}};
+ghost use Rattle.mal_base.specs.Limits.{limits};
 ghost use Rattle.mal_max.specs.Seen.{instance, solution_of};
 
 use crate::optimum::Solution;
@@ -17,7 +18,7 @@ pub fn solution_in(
     model: &Values,
 ) -> Result<Solution, AllocError>
     requires whole { formula.now.variables ≤ length model.now }
-    requires few { length softs.now ≤ 128 }
+    requires few { length softs.now ≤ limits.softs }
     ensures { IfOk result (λ s. solution_of s ≡ solution_in (instance formula.now softs.now) model.now) }
 {
     let values = &model.as_slice()[..formula.variables() as usize];
@@ -30,7 +31,7 @@ pub fn solution_in(
 
 /// How many of the soft literals the model makes false.
 fn cost(softs: &[Lit], model: &[bool]) -> u32
-    requires { length softs.now ≤ 128 }
+    requires { length softs.now ≤ limits.softs }
     ensures { result ≡ cost softs.now model.now }
 {
     softs.iter().filter(|lit| !is_true(model, **lit)).count() as u32

@@ -1,6 +1,7 @@
 -- The first starts of a node of one revision.
 use Rattle.std.proofs.Common.{◌≡◌, ℕ, ◌+◌, ◌<◌, ◌≤◌, ◌^◌, true, [], ◌∷◌, length, refl, arith}
 use Rattle.std.proofs.lemmas.List.Elements.{All-nil}
+use Rattle.mal_base.specs.declared.profile.Profile.TheVariants.{Plain}
 use Rattle.mal_base.specs.NumberedClause.{NumberedClause}
 use Rattle.mal_revision.specs.Posted.{Posted, is_posted}
 use Rattle.spec_node.specs.State.{Node, fresh}
@@ -19,7 +20,7 @@ pub sound-first : (i : ℕ) (r : Posted) → i ≤ 63 → is_posted r ≡ true �
 sound-first i r l p b = loaded-sound r 1 (fresh i) p (posted-literals r p) (new-numbers i r b) (fresh-sound i l)
 
 -- a node at its first start may load a revision and run a slice
-pub first-may : (i : ℕ) (r : Posted) → i ≤ 63 → is_posted r ≡ true → 1 + length r.clauses ≤ 2 ^ 32 → MayAllReplay (replay 1 i []) (Load r 1 ∷ Run ∷ [])
+pub first-may : (i : ℕ) (r : Posted) → i ≤ 63 → is_posted r ≡ true → 1 + length r.clauses ≤ 2 ^ 32 → MayAllReplay (replay Plain i []) (Load r 1 ∷ Run ∷ [])
 first-may i r l p b =
     let n : Node = loaded r 1 (fresh i) in
     let conflicts_since_restart : n.conflicts_since_restart ≡ 0 = refl in

@@ -2,7 +2,7 @@ use Rattle.std.proofs.Common.{◌≡◌, ℕ, zero, suc, ◌+◌, ◌-◌, ◌*�
 use Rattle.spec_node.specs.Load.{counted, new_order}
 use Rattle.mal_order.specs.Rings.{IsApart}
 
--- one number more, and the numbers behind it
+-- one number more, and the numbers after it
 pub counted_next : (items : List ℕ) (a n p : ℕ) → p < n → (items ++ (a + p) ∷ []) ++ counted (a + (p + 1)) (n - (p + 1)) ≡ items ++ counted (a + p) (n - p)
 counted_next items a n p h =
     let k : n - p ≡ suc (n - (p + 1)) = omega arith in

@@ -26,7 +26,7 @@ free-here trail list place v l q k =
 pub free-ends : (trail : List TrailEntry) (list : List ℕ) (place : ℕ) → length list ≤ place → first_free trail (drop place list) ≡ None
 free-ends trail list place l = rw (drop_all place list l) refl
 
--- where the first elements pass a test, the first that does not stands behind them
+-- where the first elements pass a test, the first that does not stands after them
 pub find-passed : (test : ℕ → Bool) (list : List ℕ) (p : ℕ) → list_all test (take p list) ≡ true → find (λ x. not (test x)) list ≡ find (λ x. not (test x)) (drop p list)
 find-passed test list zero h = refl
 find-passed test [] (suc p) h = refl

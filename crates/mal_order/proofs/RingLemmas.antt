@@ -23,7 +23,7 @@ tied-apart after before i x a z (v ∷ vs) p q r h = (get_or-set_other after i a
 flip : (a b : ℕ) → a ≢ b → b ≢ a
 flip a b h q = h (sym q)
 
--- what stands before the end of a way, and before and behind a number on it
+-- what stands before the end of a way, and before and after a number on it
 last-apart : (after before : List ℕ) (x z k : ℕ) (vs : List ℕ) → Leads after before x vs z → IsApart k (x ∷ vs) → link before z ≢ k
 last-apart after before x z k [] h p q = p.0 (sym h.1 ∙ q)
 last-apart after before x z k (v ∷ vs) h p q = last-apart after before v z k vs h.2 p.1 q
@@ -157,7 +157,7 @@ cut-at v (w ∷ ws) h = by_here (cut-at v ws) (eqb w v) refl h
         let r = f k in
         (w ∷ r.0, r.1, record { whole = ap (λ (x : List ℕ). w ∷ x) r.2.whole; rest = rw e (ap (λ (x : List ℕ). w ∷ x) r.2.rest) })
 
--- what stands before and behind a number, at the end and at the front of a way, has a place
+-- what stands before and after a number, at the end and at the front of a way, has a place
 last-below : (after before : List ℕ) (a z n : ℕ) (vs : List ℕ) → a < n → ArePlaced n vs → Leads after before a vs z → link before z < n
 last-below after before a z n [] l w h = rw h.1 l
 last-below after before a z n (v ∷ vs) l w h = last-below after before v z n vs w.1 w.2 h.2
@@ -233,7 +233,7 @@ placed-back : (n v : ℕ) (ms : List ℕ) → ArePlaced n ms → 1 ≤ v → v <
 placed-back n v [] w l h = (l, h, tt)
 placed-back n v (x ∷ ms) w l h = (w.0, w.1, placed-back n v ms w.2 l h)
 
--- a number put behind the others of a ring
+-- a number put after the others of a ring
 pub record IsEnded (after before : Linked) (v : ℕ) (list : List ℕ) : Type 0 where
   pub last : link before.numbers 0 < length after.numbers
   pub leads : Leads (set (set after.numbers (link before.numbers 0) v) v 0) (set (set before.numbers v (link before.numbers 0)) 0 v) 0 (list ++ v ∷ []) 0
@@ -258,13 +258,13 @@ ring-ended after before v s list r some here p =
           get_or-set_other (set after.numbers (link before.numbers 0) v) v k 0 0 (flip v k (apart-at k v list [] a)) ∙ (get_or-set_other after.numbers (link before.numbers 0) k v 0 behind ∙ r.others k n apart);
     }
 
--- what stands behind a number of a ring
+-- what stands after a number of a ring
 pub next-leads : (after before : List ℕ) (a z n : ℕ) (vs : List ℕ) (p : ℕ) → Leads after before a vs z → ArePlaced n vs → p < length vs → (link after (get_or (a ∷ vs) p 0) ≡ get_or vs p 0) × (1 ≤ get_or vs p 0) × (get_or vs p 0 < n)
 next-leads after before a z n [] p h w l = absurd (omega (arith, l))
 next-leads after before a z n (v ∷ vs) zero h w l = (h.0, w.0, w.1)
 next-leads after before a z n (v ∷ vs) (suc p) h w l = next-leads after before v z n vs p h.2 w.2 (omega (arith, l))
 
--- and behind the last one
+-- and after the last one
 pub next-last : (after before : List ℕ) (a z : ℕ) (vs : List ℕ) → Leads after before a vs z → link after (get_or (a ∷ vs) (length vs) 0) ≡ z
 next-last after before a z [] h = h.0
 next-last after before a z (v ∷ vs) h = next-last after before v z vs h.2

@@ -5,7 +5,7 @@ pub record Linked : Type 0 where
   pub numbers : List ℕ
   pub room : ℕ
 
--- a ring: how many places it has, the numbers in order behind the place 0, and for how many more places there is room
+-- a ring: how many places it has, the numbers in order after the place 0, and for how many more places there is room
 pub record Ringed : Type 0 where
   pub places : ℕ
   pub list : List ℕ

@@ -1,6 +1,7 @@
 //! A decision order.
 
-ghost use Rattle.std.specs.Prelude.{◌≡◌, ℕ, ◌+◌, ◌≤◌, ◌<◌, ◌==◌, true, length, [], ◌++◌, take, get_or, OnOk, OnErr, IfOk};
+ghost use Rattle.mal_base.specs.Limits.{greatest_variable};
+ghost use Rattle.std.specs.Prelude.{◌≡◌, ℕ, ◌*◌, ◌/◌, ◌+◌, ◌≤◌, ◌<◌, ◌==◌, true, length, [], ◌++◌, take, get_or, OnOk, OnErr, IfOk};
 ghost use Rattle.std.specs.List.{list_any, list_all};
 ghost use Rattle.spec_node.specs.{Load.{counted, new_order}, Value.{first_free, has_value}};
 ghost use Rattle.spec_learn.specs.Order.{moved};
@@ -13,7 +14,7 @@ use std::marker::Model;
 
 /// The decision order of a node: the first variable without a value is decided next. A search mark tells how many of
 /// the first variables were passed since they had values; who takes values away rewinds it. Contracts see the node's
-/// index (0 to 63), the variables in order, at most 65,536, for how many more there is room, and how many are passed.
+/// index (0 to 63), the variables in order, for how many more there is room, and how many are passed.
 #[derive(Drop)]
 pub struct Order {
     index: u32,
@@ -49,10 +50,10 @@ impl Order {
     }
 
     /// The order of the node with this index (0 to 63) that has the variables in this row: those from 1 to their
-    /// number, each once, at most 65,536.
+    /// number, each once.
     pub fn of_list(alloc: Global, index: u32, list: &[Var]) -> Result<Order, AllocError>
         requires index { index ≤ 63 }
-        requires bound { length list.now ≤ 65536 }
+        requires bound { length list.now ≤ greatest_variable }
         requires turned { IsTurned list.now }
         ensures index { IfOk result (λ o. o.index ≡ index) }
         ensures list { IfOk result (λ o. o.list ≡ list.now) }
@@ -85,9 +86,9 @@ impl Order {
     }
 
     /// Appends the next n variables, for which there is room: in rising order, turned left by the node's share of a
-    /// turn. With those that stand they are at most 65,536. Takes no memory.
+    /// turn. With those that stand they are as many as literals can be of at most. Takes no memory.
     pub fn append_reserved(&mut self, n: u32)
-        requires bound { length self.old.list + n ≤ 65536 }
+        requires bound { length self.old.list + n ≤ greatest_variable }
         requires room { n ≤ self.old.room }
         ensures index { self.new.index ≡ self.old.index }
         ensures list { self.new.list ≡ self.old.list ++ new_order self.old.index (length self.old.list) n }
@@ -95,16 +96,16 @@ impl Order {
         ensures room { self.new.room + n ≡ self.old.room }
     {
         let variables = self.ring.len();
-        let turn = self.index * n / 64;
+        let turn = share(self.index, n);
         self.ring.grow_reserved(n);
         push_counted(&mut self.ring, variables + 1 + turn, n - turn);
         push_counted(&mut self.ring, variables + 1, turn);
     }
 
     /// Appends the next n variables: in rising order, turned left by the node's share of a turn. With those that stand
-    /// they are at most 65,536. After want of memory the order is as before.
+    /// they are as many as literals can be of at most. Where memory runs out the order is as before.
     pub fn append(&mut self, n: u32) -> Result<(), AllocError>
-        requires { length self.old.list + n ≤ 65536 }
+        requires { length self.old.list + n ≤ greatest_variable }
         ensures index { self.new.index ≡ self.old.index }
         ensures list { OnOk result
             (self.new.list ≡ self.old.list ++ new_order self.old.index (length self.old.list) n) }
@@ -136,7 +137,7 @@ impl Order {
         None
     }
 
-    /// The variable behind those that are passed.
+    /// The variable after those that are passed.
     fn ahead(&self) -> Var
         requires { self.now.passed < length self.now.list }
         ensures { result ≡ get_or self.now.list self.now.passed 0 }
@@ -144,7 +145,7 @@ impl Order {
         Var::of(self.ring.next(self.mark))
     }
 
-    /// Passes the variable behind those that are passed.
+    /// Passes the variable after those that are passed.
     fn pass(&mut self, var: Var)
         requires within { self.old.passed < length self.old.list }
         requires ahead { var ≡ get_or self.old.list self.old.passed 0 }
@@ -203,12 +204,20 @@ impl Order {
     }
 }
 
+/// The share of a turn of n variables that the node of this index is turned by.
+fn share(index: u32, n: u32) -> u32
+    requires { index ≤ 63 }
+    ensures { result ≡ index * n / 64 }
+{
+    (u64::from(index) * u64::from(n) / 64) as u32
+}
+
 /// Appends so many numbers from this one on, none of which is in the ring.
 fn push_counted(ring: &mut Ring, first: u32, count: u32)
     requires some { 1 ≤ first }
-    requires bound { first + count ≤ 65537 }
+    requires bound { first + count ≤ greatest_variable + 1 }
     requires places { first + count ≤ ring.old.places }
-    requires few { length ring.old.list + count ≤ 65536 }
+    requires few { length ring.old.list + count ≤ greatest_variable }
     requires new { (v : ℕ) → first ≤ v → v < first + count → IsApart v ring.old.list }
     ensures places { ring.new.places ≡ ring.old.places }
     ensures list { ring.new.list ≡ ring.old.list ++ counted first count }

@@ -1,5 +1,6 @@
 //! A ring of numbers, linked in both directions.
 
+ghost use Rattle.mal_base.specs.Limits.{greatest_variable};
 ghost use Rattle.std.specs.Prelude.{◌≡◌, ◌≢◌, ◌==◌, ℕ, ◌+◌, ◌≤◌, ◌<◌, true, length, [], ◌∷◌, ◌++◌, get_or, set, OnOk};
 ghost use Rattle.std.specs.List.{list_any};
 ghost use Rattle.spec_learn.specs.Order.{moved};
@@ -86,12 +87,12 @@ impl Ring {
         self.spare -= n;
     }
 
-    /// Puts a number that has a place and is not there behind the others.
+    /// Puts a number that has a place and is not there after the others.
     pub fn push(&mut self, number: u32)
         requires some { 1 ≤ number }
         requires place { number < self.old.places }
         requires new { IsApart number self.old.list }
-        requires bound { length self.old.list < 65536 }
+        requires bound { length self.old.list < greatest_variable }
         ensures places { self.new.places ≡ self.old.places }
         ensures list { self.new.list ≡ self.old.list ++ number ∷ [] }
         ensures room { self.new.room ≡ self.old.room }
@@ -118,7 +119,7 @@ impl Ring {
         tie(&mut self.after, &mut self.before, 0, number);
     }
 
-    /// The number behind this one, or the first behind 0: 0 behind the last, and where the number is not in the ring.
+    /// The number after this one, or the first after 0: 0 after the last, and where the number is not in the ring.
     pub fn next(&self, number: u32) -> u32
         ensures within { (p : ℕ) → number ≡ get_or (0 ∷ self.now.list) p 0 → p < length self.now.list
             → (result ≡ get_or self.now.list p 0) × (1 ≤ result) × (result < self.now.places) }

@@ -46,7 +46,7 @@ ran-low : (s : SoloMachine) → AllByRecursion (λ i. i ≤ 63) (ran_indices s)
 unfolding ran_indices
 ran-low s = low-among (has_run s) 0 64 (omega arith)
 
--- the sections from the nodes on: nodes, slices and answers, each behind its count
+-- the sections from the nodes on: nodes, slices and answers, each after its count
 abbrev machine_of : List Placed → List Slice → ℕ → List ℕ → List ℕ
 machine_of ps cs n answers = spelled w64 (length ps) ++ (flat_map placed_bytes ps ++ (spelled w64 (length cs) ++ (flat_map slice_bytes cs ++ (spelled w64 n ++ answers))))
 
@@ -121,7 +121,7 @@ nodes-flat : (f : ℕ → Placed) (is : List ℕ) → flat_map placed_bytes (map
 nodes-flat f [] = refl
 nodes-flat f (i ∷ is) = ap (λ (bs : List ℕ). placed_bytes (f i) ++ bs) (nodes-flat f is)
 
--- what is cut of a parcel: its nodes, and the bytes of its slices and answers behind the opening
+-- what is cut of a parcel: its nodes, and the bytes of its slices and answers after the opening
 pub record IsCut (own : List Own) (count : ℕ) (nodes slices answers : List ℕ) : Type 0 where
   pub to_wake : IsToWake (solo own) count nodes
   pub slices_cut : slices ≡ slices_left (solo own) (solo (take 1 own))
@@ -162,7 +162,7 @@ cut-whole k own lawful again count nodes slices answers bytes short is found =
 pub always-cut : (k : Key) (own : List Own) (bytes : List ℕ) → length bytes < 2 ^ 63 → bytes ≡ parcel_bytes k own → None ≡ machine_in bytes → ⊥
 always-cut k own bytes short is none = none-some (found_in k own) (none ∙ parcel-again k own bytes short is)
 
--- a job that was opened stands behind its first event
+-- a job that was opened stands after its first event
 pub opened-replayed : (number : ℕ) (key : Key) (own : List Own) (made : JobView) (count : ℕ) (nodes slices answers : List ℕ) → made ≡ unstarted number (record { key = key; state = solo (take 1 own) }) → IsCut own count nodes slices answers → IsReplayed made.number made.titled.key own (take 1 own) made slices answers
 opened-replayed number key own made count nodes slices answers e cut = record {
   job = subst (λ (v : JobView). v ≡ unstarted v.number (record { key = v.titled.key; state = solo (take 1 own) })) (sym e) refl;

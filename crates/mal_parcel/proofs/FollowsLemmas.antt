@@ -26,7 +26,7 @@ use Rattle.mal_parcel.proofs.TakeLemmas.{told-again}
 use Rattle.mal_parcel.proofs.PassLemmas.{lawful-passes, lease-out, ran-slices, ran-whole, slices-next}
 use Rattle.mal_parcel.proofs.ReadableLemmas.{slice-readable, lawful-goal}
 
--- what stands at a place, and behind it
+-- what stands at a place, and after it
 get-drop : {X : Type 0} (xs : List X) (n : ℕ) (x : X) → slice_get xs n ≡ Some x → drop n xs ≡ x ∷ drop (suc n) xs
 get-drop {X} [] n x e = absurd (cc)
 get-drop {X} (y ∷ ys) zero x e = let same : y ≡ x = cc in ap (λ (z : X). z ∷ ys) same

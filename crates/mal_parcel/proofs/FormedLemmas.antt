@@ -5,6 +5,7 @@ use Rattle.std.specs.List.{flat_map, list_all}
 use Rattle.std.proofs.lemmas.Bool.{le-leb}
 use Rattle.std.proofs.lemmas.Grind.{flat_map-append}
 use Rattle.std.proofs.lemmas.List.Sums.{fold_push}
+use Rattle.mal_base.specs.Limits.{limits}
 use Rattle.mal_base.specs.Asks.{Weighed, IsWeight}
 use Rattle.mal_base.specs.Formulas.{literals_of}
 use Rattle.mal_base.specs.Names.{is_name}
@@ -17,7 +18,6 @@ use Rattle.spec_job.proofs.LoadedLemmas.{clauses_in-push}
 use Rattle.spec_job.proofs.PushLemmas.{solo-push}
 use Rattle.spec_job.proofs.StepLemmas.{finish-keeps, settled-keeps}
 use Rattle.spec_script.specs.Formed.{IsScript, is_step, is_weight}
-use Rattle.spec_script.specs.Limits.{served}
 use Rattle.spec_script.specs.Script.{revisions_in}
 use Rattle.spec_script.specs.declared.step.Step.{Step}
 use Rattle.spec_script.specs.declared.step.Step.TheVariants.{Revise, Reask}
@@ -26,19 +26,19 @@ use Rattle.spec_parcel.specs.Packed.{script_of, steps_at}
 -- a machine has the revisions of these steps, which are in form and within the limits
 record IsPosting (s : SoloMachine) (steps : List Step) : Type 0 where
   pub revisions : s.revisions ≡ revisions_in steps
-  pub few : length s.revisions ≤ 256
+  pub few : length s.revisions ≤ limits.revisions
   pub formed : list_all is_step steps ≡ true
-  pub clauses : clauses_in s.revisions ≤ 1048576
-  pub literals : literals_in s.revisions ≤ 16777216
+  pub clauses : clauses_in s.revisions ≤ limits.clauses
+  pub literals : literals_in s.revisions ≤ limits.literals
 
 -- an event that posts nothing
 posts-nothing : (s t : SoloMachine) (steps : List Step) → t.revisions ≡ s.revisions → IsPosting s steps → IsPosting t (steps ++ [])
 posts-nothing s t steps e k = subst (λ (ss : List Step). IsPosting t ss) (sym (append-nil steps)) (record {
   revisions = e ∙ k.revisions;
-  few = subst (λ (rs : List Posted). length rs ≤ 256) (sym e) k.few;
+  few = subst (λ (rs : List Posted). length rs ≤ limits.revisions) (sym e) k.few;
   formed = k.formed;
-  clauses = subst (λ (rs : List Posted). clauses_in rs ≤ 1048576) (sym e) k.clauses;
-  literals = subst (λ (rs : List Posted). literals_in rs ≤ 16777216) (sym e) k.literals;
+  clauses = subst (λ (rs : List Posted). clauses_in rs ≤ limits.clauses) (sym e) k.clauses;
+  literals = subst (λ (rs : List Posted). literals_in rs ≤ limits.literals) (sym e) k.literals;
 })
 
 -- one step more in form
@@ -57,7 +57,7 @@ revisions-push : (steps : List Step) (r : Posted) → revisions_in (steps ++ Rev
 revisions-push steps r = flat_map-append _ steps (Revise r ∷ [])
 
 weight-formed : (w : Weighed) → IsWeight w → is_weight w ≡ true
-weight-formed w k = rw (le-leb 1 w.priority k.some_priority, le-leb w.priority 1000 k.priority_bound, le-leb 1 w.demand k.some_demand, le-leb w.demand 64 k.demand_bound) refl
+weight-formed w k = rw (le-leb 1 w.priority k.some_priority, le-leb w.priority limits.priority k.priority_bound, le-leb 1 w.demand k.some_demand, le-leb w.demand limits.demand k.demand_bound) refl
 
 -- one own event more
 posts-step : (s : SoloMachine) (o : Own) (steps : List Step) → MayPass s o → IsPosting s steps → IsPosting (solo_step s o) (steps ++ steps_at o)
@@ -70,10 +70,10 @@ posts-step s (Revised r) steps may k =
     let few = may.few in
     record {
       revisions = e ∙ (ap (λ (rs : List Posted). rs ++ r ∷ []) k.revisions ∙ sym (revisions-push steps r));
-      few = subst (λ (rs : List Posted). length rs ≤ 256) (sym e) (omega (arith, long, few));
+      few = subst (λ (rs : List Posted). length rs ≤ limits.revisions) (sym e) (omega (arith, long, few));
       formed = formed-more steps (Revise r) k.formed may.posted;
-      clauses = subst (λ (rs : List Posted). clauses_in rs ≤ 1048576) (sym e) (omega (arith, clauses_in-push s.revisions r, may.clauses));
-      literals = subst (λ (rs : List Posted). literals_in rs ≤ 16777216) (sym e) (omega (arith, literals-push s.revisions r, may.literals));
+      clauses = subst (λ (rs : List Posted). clauses_in rs ≤ limits.clauses) (sym e) (omega (arith, clauses_in-push s.revisions r, may.clauses));
+      literals = subst (λ (rs : List Posted). literals_in rs ≤ limits.literals) (sym e) (omega (arith, literals-push s.revisions r, may.literals));
     }
 posts-step s (Reasked w) steps may k = record {
   revisions = k.revisions ∙ sym (flat_map-append _ steps (Reask w ∷ []) ∙ append-nil (revisions_in steps));
@@ -97,7 +97,7 @@ posts-all past (o ∷ os) steps all k =
     subst (λ (es : List Own). IsPosting (solo es) (steps ++ (steps_at o ++ flat_map steps_at os))) (append_assoc past (o ∷ []) os) (subst (λ (ss : List Step). IsPosting (solo ((past ++ o ∷ []) ++ os)) ss) (append_assoc steps (steps_at o) (flat_map steps_at os)) rest)
 
 -- the script of a lawful job, whose names are names, is in form and within the limits that are served
-pub script-formed : (k : Key) (own : List Own) → is_name k.tenant ≡ true → is_name k.job ≡ true → IsLawful own → IsScript served (script_of k own)
+pub script-formed : (k : Key) (own : List Own) → is_name k.tenant ≡ true → is_name k.job ≡ true → IsLawful own → IsScript limits (script_of k own)
 script-formed k [] tenant job lawful = absurd lawful
 script-formed k (Opened ask ∷ os) tenant job lawful =
     let none : IsPosting (solo (Opened ask ∷ [])) [] = record { revisions = refl; few = omega arith; formed = refl; clauses = omega arith; literals = omega arith } in
@@ -107,10 +107,10 @@ script-formed k (Opened ask ∷ os) tenant job lawful =
           tenant = tenant;
           name = job;
           ask = lawful.0;
-          few = subst (λ (rs : List Posted). length rs ≤ 256) p.revisions p.few;
+          few = subst (λ (rs : List Posted). length rs ≤ limits.revisions) p.revisions p.few;
           formed = p.formed;
-          clauses = subst (λ (rs : List Posted). clauses_in rs ≤ 1048576) p.revisions p.clauses;
-          literals = subst (λ (rs : List Posted). literals_in rs ≤ 16777216) p.revisions p.literals;
+          clauses = subst (λ (rs : List Posted). clauses_in rs ≤ limits.clauses) p.revisions p.clauses;
+          literals = subst (λ (rs : List Posted). literals_in rs ≤ limits.literals) p.revisions p.literals;
         };
         new = refl;
         room = refl;

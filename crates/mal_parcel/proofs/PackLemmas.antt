@@ -8,7 +8,7 @@ use Rattle.spec_parcel.specs.Packed.{own_text, parcel_bytes, ran_indices, script
 use Rattle.mal_parcel.specs.Packing.{front_bytes, machine_bytes}
 use Rattle.mal_parcel.specs.Parcelled.{IsReadBack}
 
--- a machine of which the volume is left behind
+-- a machine of which the volume is left after
 abbrev still : SoloMachine → SoloMachine
 still s = record s { volume = 0 }
 

@@ -45,7 +45,7 @@ lawful-passes (Started i ∷ past) o later e lawful = absurd lawful
 lawful-passes (Finished i outcome ∷ past) o later e lawful = absurd lawful
 lawful-passes (Exchanged ∷ past) o later e lawful = absurd lawful
 
--- behind an opening none comes again
+-- after an opening none comes again
 never-opened : (s : SoloMachine) (o : Own) → MayPass s o → is_opening o ≡ false
 never-opened s (Opened ask) may = absurd may
 never-opened s (Revised r) may = refl
@@ -131,7 +131,7 @@ ran-whole past i later model lawful e =
     let same : (solo (past ++ Finished i Ran ∷ [])).revisions ≡ (solo past).revisions = ap (λ (t : SoloMachine). t.revisions) (solo-push past (Finished i Ran)) ∙ finish-revisions (solo past) i in
     solves.whole ∙ ap (λ (rs : _). variables_through rs (length (solo past).answers)) same
 
--- what is left behind a front, and behind a longer one
+-- what is left after a front, and after a longer one
 left-next : {X : Type 0} (f : X → List ℕ) (xs new more ys all : List X) → ys ≡ xs ++ new → all ≡ ys ++ more → flat_map f (drop (length xs) all) ≡ flat_map f new ++ flat_map f (drop (length ys) all)
 left-next {X} f xs new more ys all e is =
     let behind : drop (length ys) all ≡ more = ap (λ (zs : List X). drop (length ys) zs) is ∙ drop_at ys more (length ys) refl in
@@ -140,7 +140,7 @@ left-next {X} f xs new more ys all e is =
     ap (λ (zs : List X). flat_map f zs) front ∙ (flat_map-append f new more ∙ ap (λ (zs : List X). flat_map f new ++ flat_map f zs) (sym behind))
 
 module _ (past : List Own) (o : Own) (later : List Own) where
-  -- the machine before and after the event, and behind them all
+  -- the machine before and after the event, and after them all
   abbrev before : SoloMachine
   before = solo past
 

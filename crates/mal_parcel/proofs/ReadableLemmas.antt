@@ -6,14 +6,16 @@ use Rattle.std.proofs.lemmas.List.{take_at}
 use Rattle.std.proofs.lemmas.List.Elements.{All-nil, All-cons, All-head, All-tail, All-take, All-weaker, All-contains, recursion_from_All}
 use Rattle.std.proofs.lemmas.Bool.{and_parts, leb-true}
 use Rattle.std.proofs.lemmas.Nat.{mul-le}
+use Rattle.mal_base.specs.Limits.{limits}
 use Rattle.mal_base.specs.NumberedClause.{NumberedClause, Line}
-use Rattle.mal_base.specs.Literals.{IsLiteral}
 use Rattle.mal_base.specs.Asks.{Terms}
 use Rattle.mal_base.specs.declared.answer.Answer.TheVariants.{Refuted}
 use Rattle.mal_revision.specs.Posted.{Posted, is_posted}
 use Rattle.spec_logic.specs.Refutation.{numbered}
 use Rattle.spec_proof.specs.Log.{IsAbove}
-use Rattle.spec_proof.proofs.Among.{Among, among-append, of-all}
+use Rattle.spec_proof.specs.Among.{Among}
+use Rattle.spec_proof.proofs.Among.{among-append, of-all}
+use Rattle.spec_lrat.specs.Grammar.{IsServed}
 use Rattle.spec_lrat.specs.Laws.{IsId}
 use Rattle.spec_node.specs.State.{Node}
 use Rattle.spec_node.specs.Sound.{IsSound, IsLiteralOf, AreLiteralsOf}
@@ -122,15 +124,15 @@ step-hints s Exchanged kept own h = h
 runnable-hints : (events : List Own) → IsRunnable [] events → HaveHints (solo events).log
 runnable-hints events may = events-keep (λ s. HaveHints s.log) (λ past os. IsRunnable [] past × IsRunnable past os) (λ past o os q h. (step-hints (solo past) o (runnable-kept past q.0) (runnable-clauses_own past q.0) h, (runnable-push past o q.0 q.1.0, q.1.1))) [] events (tt, may) (λ line m. absurd m)
 
--- a lawful job has 256 revisions at most
+-- a lawful job has as many revisions as are served at most
 abbrev IsFew : SoloMachine → Type 0
-IsFew s = length s.revisions ≤ 256
+IsFew s = length s.revisions ≤ limits.revisions
 
 step-few : (s : SoloMachine) (o : Own) → MayPass s o → IsFew s → IsFew (solo_step s o)
 step-few s (Opened ask) may h = h
 step-few s (Revised r) may h =
     let long : length (s.revisions ++ r ∷ []) ≡ length s.revisions + 1 = length-append s.revisions (r ∷ []) in
-    let room : length s.revisions < 256 = may.few in
+    let room : length s.revisions < limits.revisions = may.few in
     settled-leaves IsFew (λ t answers k. k) (λ t spent starved k. k) (first_empty s.log) (record s { revisions = s.revisions ++ r ∷ [] }) (omega arith)
 step-few s (Reasked w) may h = h
 step-few s Closed may h = h
@@ -139,19 +141,19 @@ step-few s (Started i) may h = h
 step-few s (Finished i o) may h = finished-leaves IsFew (λ t answers k. k) (λ t spent starved k. k) s i (place_at s i) (place_at s i).out o h (λ l e. h) h
 step-few s Exchanged may h = h
 
-pub lawful-few : (ask : Terms) (own : List Own) → IsLawful (Opened ask ∷ own) → length (solo (Opened ask ∷ own)).revisions ≤ 256
+pub lawful-few : (ask : Terms) (own : List Own) → IsLawful (Opened ask ∷ own) → length (solo (Opened ask ∷ own)).revisions ≤ limits.revisions
 lawful-few ask own lawful = events-keep IsFew AllPass (λ past o os q h. (step-few (solo past) o q.0 h, q.1)) (Opened ask ∷ []) own lawful.1 (omega arith)
 
 -- a lawful job runs few slices
-pub runs-low : (ask : Terms) (own : List Own) → IsLawful (Opened ask ∷ own) → runs_of (solo (Opened ask ∷ own)).places ≤ 257 * 4096
+pub runs-low : (ask : Terms) (own : List Own) → IsLawful (Opened ask ∷ own) → runs_of (solo (Opened ask ∷ own)).places ≤ (limits.revisions + 1) * limits.slices
 runs-low ask own lawful =
     let s : SoloMachine = solo (Opened ask ∷ own) in
     let once = lawful-is_once ask own lawful in
     let runs : runs_of s.places + starts_out s.places ≤ (length s.answers + 1) * ask.slices = runs-are_few ask own once in
     let order : length s.answers ≤ length s.revisions = runnable-answers_follow (Opened ask ∷ own) once.runnable in
-    let few : length s.revisions ≤ 256 = lawful-few ask own lawful in
-    let short : ask.slices ≤ 4096 = lawful.0.slices_bound in
-    let most : (length s.answers + 1) * ask.slices ≤ 257 * 4096 = mul-le (length s.answers + 1) ask.slices 257 4096 (omega (arith, order, few)) short in
+    let few : length s.revisions ≤ limits.revisions = lawful-few ask own lawful in
+    let short : ask.slices ≤ limits.slices = lawful.0.slices_bound in
+    let most : (length s.answers + 1) * ask.slices ≤ (limits.revisions + 1) * limits.slices = mul-le (length s.answers + 1) ask.slices (limits.revisions + 1) limits.slices (omega (arith, order, few)) short in
     omega (arith, runs, most)
 
 -- the number of a line has 62 bits
@@ -160,17 +162,17 @@ line-low ask own lawful line m =
     let s : SoloMachine = solo (Opened ask ∷ own) in
     let once = lawful-is_once ask own lawful in
     let low : (line.id - 2 ^ 32) / 64 < runs_of s.places * 1000 = (events-within ask.slices (Opened ask ∷ []) own once.runnable.1 once.once (opened-within ask)).low.lines line m in
-    let runs : runs_of s.places ≤ 257 * 4096 = runs-low ask own lawful in
+    let runs : runs_of s.places ≤ (limits.revisions + 1) * limits.slices = runs-low ask own lawful in
     omega (arith, low, runs)
 
--- revisions have 65,536 variables at most
-pub one-low : (r : Posted) → is_posted r ≡ true → r.variables ≤ 65536
-one-low r e = leb-true r.variables 65536 (and_parts _ _ (and_parts _ _ (and_parts _ _ (and_parts _ _ e).0).0).0).0
+-- revisions have as many variables as are served at most
+pub one-low : (r : Posted) → is_posted r ≡ true → r.variables ≤ limits.variables
+one-low r e = leb-true r.variables limits.variables (and_parts _ _ (and_parts _ _ (and_parts _ _ (and_parts _ _ e).0).0).0).0
 
-variables-low : (rs : List Posted) (v : ℕ) → All (λ r. is_posted r ≡ true) rs → v ≤ 65536 → fold (λ (x : ℕ) (p : Posted). max x p.variables) v rs ≤ 65536
+variables-low : (rs : List Posted) (v : ℕ) → All (λ r. is_posted r ≡ true) rs → v ≤ limits.variables → fold (λ (x : ℕ) (p : Posted). max x p.variables) v rs ≤ limits.variables
 variables-low [] v all low = low
 variables-low (r ∷ rs) v all low =
-    let here : r.variables ≤ 65536 = one-low r (All-head (λ (x : Posted). is_posted x ≡ true) r rs all) in
+    let here : r.variables ≤ limits.variables = one-low r (All-head (λ (x : Posted). is_posted x ≡ true) r rs all) in
     variables-low rs (max v r.variables) (All-tail (λ (x : Posted). is_posted x ≡ true) r rs all) (omega arith)
 
 -- a line of a lawful job is read again
@@ -179,7 +181,7 @@ line-readable [] lawful line m = absurd lawful
 line-readable (Opened ask ∷ own) lawful line m = record {
   rising = omega (arith, derived);
   is_id = (omega (arith, derived), omega (arith, low));
-  is_clause = (literals.rising, recursion_from_All IsLiteral line.lits (All-weaker (IsLiteralOf variables) IsLiteral of-code line.lits literals.within));
+  is_clause = (literals.rising, recursion_from_All IsServed line.lits (All-weaker (IsLiteralOf variables) IsServed of-code line.lits literals.within));
   are_ids = recursion_from_All IsId line.hints (both-hints line.hints (runnable-hints (Opened ask ∷ own) once.runnable line m) above.above);
 }
   where
@@ -207,10 +209,10 @@ line-readable (Opened ask ∷ own) lawful line m = record {
     literals : AreLiteralsOf variables line.lits
     literals = kept.derives.within line m
 
-    few : variables ≤ 65536
+    few : variables ≤ limits.variables
     few = variables-low (take (length s.answers + 1) s.revisions) 0 (All-take (λ (r : Posted). is_posted r ≡ true) (length s.answers + 1) s.revisions kept.solving.loadable) (omega arith)
 
-    of-code : (code : ℕ) → IsLiteralOf variables code → IsLiteral code
+    of-code : (code : ℕ) → IsLiteralOf variables code → IsServed code
     of-code code is =
         let some : 1 ≤ code / 2 = is.low in
         let most : code / 2 ≤ variables = is.high in

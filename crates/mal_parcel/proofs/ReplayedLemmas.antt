@@ -1,4 +1,4 @@
--- A job before one of its own events, and behind it.
+-- A job before one of its own events, and after it.
 use Rattle.std.proofs.Common.{◌≡◌, ℕ, false, List, [], ◌∷◌, ◌++◌, length, drop, replicate, refl, sym, ◌∙◌, ap, append-nil}
 use Rattle.std.specs.Prelude.{flat_map, slice_set}
 use Rattle.std.proofs.lemmas.List.{drop_at}
@@ -51,7 +51,7 @@ module _ (o : Own) (j : JobView) (slices answers : List ℕ) (b : IsBefore o j s
   pub same-left : is_ran o ≡ false → slices ≡ slices_left whole after
   same-left e = b.replayed.slices_to_come ∙ ap (λ (bs : List ℕ). bs ++ listed answer_bytes whole.answers) (slices-next b.past o b.later slice_bytes [] (other-slices (solo b.past) o e ∙ sym (append-nil (solo b.past).slices)))
 
-  -- behind it
+  -- after it
   pub and-replayed : (next : JobView) (ss rest : List ℕ) → next ≡ and_own j o → ss ≡ slices_left whole after → rest ≡ drop (length (flat_map answer_bytes (drop (length j.titled.state.answers) next.titled.state.answers))) answers → IsReplayed b.number b.key (b.past ++ o ∷ b.later) (b.past ++ o ∷ []) next ss rest
   and-replayed next ss rest e f g = record { job = done; slices_to_come = f; answers_to_come = g ∙ (ap (λ (new : List Answer). drop (length (flat_map answer_bytes new)) answers) come ∙ (ap (λ (bs : List ℕ). drop (length (flat_map answer_bytes new)) bs) (b.replayed.answers_to_come ∙ answers-next b.past o b.later answer_bytes) ∙ drop_at (flat_map answer_bytes new) (answers_left whole after) (length (flat_map answer_bytes new)) refl)) }
     where

@@ -49,7 +49,7 @@ front-again xs more =
     let behind : drop (length xs) (xs ++ more) ≡ more = drop_at xs more (length xs) refl in
     rw (long, front, behind) refl
 
--- bytes behind their length
+-- bytes after their length
 sized-length : (xs more : List ℕ) → length (sized xs ++ more) ≡ 8 + (length xs + length more)
 sized-length xs more = omega (arith, length-append (sized xs) more, length-append (spelled w64 (length xs)) xs, spelled-length (length xs))
 

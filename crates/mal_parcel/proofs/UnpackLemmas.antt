@@ -53,7 +53,7 @@ module _ (number : ℕ) (key : Key) (events : List OwnEvent) (n : ℕ) (e : OwnE
   abbrev pub before-at : IsBefore (own_of e) j slices answers
   before-at = record { number = number; key = key; past = take n (owned events); later = drop (suc n) (owned events); other = never-again (take n (owned events)) (own_of e) (drop (suc n) (owned events)) (taken-some (owned events) n (own_of e) some (owned-get events n e at)) (subst IsLawful (sym whole-at) lawful); lawful = subst IsLawful (sym whole-at) lawful; replayed = subst (λ (os : List Own). IsReplayed number key os (take n (owned events)) j slices answers) (sym whole-at) h }
 
-  -- and then behind it
+  -- and then after it
   pub behind-at : (next : JobView) (ss rest : List ℕ) → ((b : IsBefore (own_of e) j slices answers) → IsReplayed b.number b.key (b.past ++ own_of e ∷ b.later) (b.past ++ own_of e ∷ []) next ss rest) → IsReplayed number key (owned events) (take (n + 1) (owned events)) next ss rest
   behind-at next ss rest done =
       let one : suc n ≡ n + 1 = omega arith in
@@ -68,7 +68,7 @@ first-next s count bytes some h = by_indices h.indices h.counted h.low h.again h
     by_indices [] counted low again front = absurd (omega (arith, counted, some))
     by_indices (i ∷ is) counted low again front = record { index = i; more = flat_map (node_bytes s) is ++ h.more; low = low.0; again = again.0; front = front ∙ append_assoc (node_bytes s i) (flat_map (node_bytes s) is) h.more }
 
--- what is behind it
+-- what is after it
 pub behind-next : (s : SoloMachine) (i : ℕ) (more bytes rest : List ℕ) → length bytes < 2 ^ 63 → bytes ≡ node_bytes s i ++ more → behind_node bytes ≡ Some rest → rest ≡ more
 behind-next s i more bytes rest short front behind = same_Some rest more (sym behind ∙ (ap behind_node front ∙ behind_node-again (placed s i) more (omega (arith, short, ap (λ (bs : List ℕ). length bs) front))))
 

@@ -12,8 +12,8 @@ model_at variables bytes = option_map (λ m. (Some (Satisfied (map (λ b. b == 1
 abbrev pub goal_at : List ℕ → Option (Option Answer × List ℕ)
 goal_at bytes = option_and_then (λ n. if n.0 == 0 then None else Some (Some (Refuted n.0), n.1)) (number_at bytes)
 
--- the answer at the front, where it is a verdict, of a job of so many variables by then, and what is behind it; none where
--- no answer stands there
+-- the answer at the front, where it is a verdict, of a job of so many variables by then, and what is after it; none
+-- where no answer stands there
 abbrev pub answer_at : ℕ → List ℕ → Option (Option Answer × List ℕ)
 answer_at variables [] = None
 answer_at variables (kind ∷ bytes) =

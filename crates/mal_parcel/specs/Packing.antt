@@ -9,6 +9,6 @@ use Rattle.spec_parcel.specs.Packed.{answer_bytes, listed, node_bytes, own_text,
 abbrev pub front_bytes : Key → List Own → List ℕ
 front_bytes k own = codes "MALPACK1" ++ (sized (spelling (script_of k own)) ++ sized (own_text k own))
 
--- the sections behind the own events: nodes, slices and answers of a machine
+-- the sections after the own events: nodes, slices and answers of a machine
 abbrev pub machine_bytes : SoloMachine → List ℕ
 machine_bytes s = listed (node_bytes s) (ran_indices s) ++ (listed slice_bytes s.slices ++ listed answer_bytes s.answers)

@@ -17,7 +17,7 @@ pub record Parcelled : Type 0 where
 abbrev pub IsReadBack : SoloMachine → ℕ → Type 0
 IsReadBack s i = image_in (image_bytes (node_at s i)) ≡ Ok (node_at s i)
 
--- the own events are lawful, no start is out behind them and no volume is left, the bytes are those of the job, and the
+-- the own events are lawful, no start is out after them and no volume is left, the bytes are those of the job, and the
 -- image of each node that has run is read to that node
 pub record IsParcel (key : Key) (own : List Own) (bytes : List ℕ) : Type 0 where
   pub lawful : IsLawful own

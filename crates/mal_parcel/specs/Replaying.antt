@@ -31,7 +31,7 @@ pub record IsToWake (s : SoloMachine) (count : ℕ) (bytes : List ℕ) : Type 0 
 abbrev pub slices_left : SoloMachine → SoloMachine → List ℕ
 slices_left whole s = flat_map slice_bytes (drop (length s.slices) whole.slices) ++ listed answer_bytes whole.answers
 
--- the bytes of the answers that the first machine gives behind those of the second
+-- the bytes of the answers that the first machine gives after those of the second
 abbrev pub answers_left : SoloMachine → SoloMachine → List ℕ
 answers_left whole s = flat_map answer_bytes (drop (length s.answers) whole.answers)
 

@@ -1,4 +1,4 @@
--- What stands at the front of bytes, and what is behind it; none where it does not stand there.
+-- What stands at the front of bytes, and what is after it; none where it does not stand there.
 use Rattle.std.specs.Prelude.{◌≡◌, ℕ, zero, suc, ◌==◌, Bool, List, [], ◌∷◌, take, drop, length, codes, bytes_eq, Option, Some, None, option_map, option_and_then, nat_lt, if◌then◌else◌}
 use Rattle.std.specs.Int.{w64, from_be_bytes}
 
@@ -17,7 +17,7 @@ behind_number bytes = option_map (λ n. n.1) (number_at bytes)
 abbrev pub front_at : ℕ → List ℕ → Option (List ℕ × List ℕ)
 front_at n bytes = if nat_lt (length bytes) n then None else Some (take n bytes, drop n bytes)
 
--- bytes behind their length
+-- bytes after their length
 abbrev pub sized_at : List ℕ → Option (List ℕ × List ℕ)
 sized_at bytes = option_and_then (λ n. front_at n.0 n.1) (number_at bytes)
 
@@ -29,7 +29,7 @@ abbrev pub ends_at : List ℕ → Option (Bool × List ℕ)
 ends_at [] = None
 ends_at (byte ∷ bytes) = Some (byte == 1, bytes)
 
--- a slice: whether it ends a revision, and behind the number of its lines their text
+-- a slice: whether it ends a revision, and after the number of its lines their text
 abbrev pub told_at : List ℕ → Option (Bool × (List ℕ × List ℕ))
 told_at bytes = option_and_then (λ e. option_map (λ t. (e.0, t)) (option_and_then sized_at (behind_number e.1))) (ends_at bytes)
 
@@ -43,12 +43,12 @@ placed_at bytes = option_and_then (λ n. option_map (λ t. (n.0, t)) (sized_at n
 abbrev pub behind_node : List ℕ → Option (List ℕ)
 behind_node bytes = option_map (λ p. p.1.1) (placed_at bytes)
 
--- what is behind so many, each of which is passed so
+-- what is after so many, each of which is passed so
 abbrev pub behind_each : (List ℕ → Option (List ℕ)) → ℕ → List ℕ → Option (List ℕ)
 behind_each pass zero bytes = Some bytes
 behind_each pass (suc n) bytes = option_and_then (behind_each pass n) (pass bytes)
 
--- what is behind the magic word, and then behind the script and the own events
+-- what is after the magic word, and then after the script and the own events
 abbrev pub behind_magic : List ℕ → Option (List ℕ)
 behind_magic bytes = if bytes_eq (take 8 bytes) (codes "MALPACK1") then Some (drop 8 bytes) else None
 

@@ -26,11 +26,11 @@ lines_said (text ∷ texts) = option_and_then (λ l. option_map (λ ls. l ∷ ls
 abbrev pub lines_in : List ℕ → Option (List Line)
 lines_in text = lines_said (lines_of text)
 
--- the slice at the front: its lines and whether it ends a revision, and what is behind it
+-- the slice at the front: its lines and whether it ends a revision, and what is after it
 abbrev pub slice_at : List ℕ → Option (List Line × (Bool × List ℕ))
 slice_at bytes = option_and_then (λ t. option_map (λ ls. (ls, (t.0, t.1.1))) (lines_in t.1.0)) (told_at bytes)
 
--- a line was put behind the others, where there was one
+-- a line was put after the others, where there was one
 abbrev pub IsPut : Option Line → Bool → List Line → List Line → Type 0
 IsPut None put before after = (put ≡ false) × (after ≡ before)
 IsPut (Some line) put before after = (put ≡ true) × (after ≡ before ++ line ∷ [])

@@ -1,6 +1,7 @@
 //! The section of the answers.
 
 ghost use Rattle.std.specs.Prelude.{◌≡◌, ◌==◌, ◌≤◌, [], ◌∷◌, ◌++◌, length, map, flat_map, IfOk, OnOk};
+ghost use Rattle.mal_base.specs.Limits.{limits};
 ghost use Rattle.mal_freeze.specs.Spelling.{phase_code};
 ghost use Rattle.spec_parcel.specs.Packed.{answer_bytes, listed};
 ghost use Rattle.mal_parcel.specs.{Answered.{answer_at, goal_at, model_at}, Taking.{Takes}};
@@ -9,7 +10,7 @@ use crate::sized::{put_length, put_number, take_number};
 use mal_base::{Answer, ClauseId, Values};
 use std::alloc::{AllocError, Global};
 
-/// Puts how many answers there are, and then each of them, behind the others.
+/// Puts how many answers there are, and then each of them, after the others.
 pub fn put_answers(out: &mut Vec<u8>, answers: &[Answer]) -> Result<(), AllocError>
     ensures { OnOk result (out.new.items ≡ out.old.items ++ listed answer_bytes answers.now) }
 {
@@ -17,7 +18,7 @@ pub fn put_answers(out: &mut Vec<u8>, answers: &[Answer]) -> Result<(), AllocErr
     put_each(out, answers)
 }
 
-/// Puts answers behind the others.
+/// Puts answers after the others.
 fn put_each(out: &mut Vec<u8>, answers: &[Answer]) -> Result<(), AllocError>
     ensures { OnOk result (out.new.items ≡ out.old.items ++ flat_map answer_bytes answers.now) }
 {
@@ -27,7 +28,7 @@ fn put_each(out: &mut Vec<u8>, answers: &[Answer]) -> Result<(), AllocError>
     Ok(())
 }
 
-/// Puts an answer behind the others: its kind, and then its model or its goal.
+/// Puts an answer after the others: its kind, and then its model or its goal.
 pub fn put_answer(out: &mut Vec<u8>, answer: &Answer) -> Result<(), AllocError>
     ensures { OnOk result (out.new.items ≡ out.old.items ++ answer_bytes answer.now) }
 {
@@ -45,7 +46,7 @@ pub fn put_answer(out: &mut Vec<u8>, answer: &Answer) -> Result<(), AllocError>
     }
 }
 
-/// Puts a byte behind the others.
+/// Puts a byte after the others.
 fn put_byte(out: &mut Vec<u8>, byte: u8) -> Result<(), AllocError>
     ensures { OnOk result (out.new.items ≡ out.old.items ++ byte ∷ []) }
 {
@@ -53,7 +54,7 @@ fn put_byte(out: &mut Vec<u8>, byte: u8) -> Result<(), AllocError>
     Ok(())
 }
 
-/// Puts the values of a model behind the others, 1 for true and 0 for false.
+/// Puts the values of a model after the others, 1 for true and 0 for false.
 fn put_values(out: &mut Vec<u8>, values: &[bool]) -> Result<(), AllocError>
     ensures { OnOk result (out.new.items ≡ out.old.items ++ map phase_code values.now) }
 {
@@ -70,14 +71,14 @@ pub fn phase_code(value: bool) -> u8
     if value { 1 } else { 0 }
 }
 
-/// The answer at the front, where it is a verdict, of a job with so many variables by then, and what stands behind it.
+/// The answer at the front, where it is a verdict, of a job with so many variables by then, and what stands after it.
 /// None where no answer stands there.
 pub fn take_answer(
     alloc: Global,
     variables: usize,
     bytes: &[u8],
 ) -> Result<Option<(Option<Answer>, &[u8])>, AllocError>
-    requires { variables ≤ 65536 }
+    requires { variables ≤ limits.variables }
     ensures { IfOk result (λ o. Takes (λ x. (x.0, x.1.now)) o (answer_at variables bytes.now)) }
 {
     match bytes {
@@ -89,13 +90,13 @@ pub fn take_answer(
     }
 }
 
-/// The model of so many variables at the front, and what stands behind it.
+/// The model of so many variables at the front, and what stands after it.
 fn take_model(
     alloc: Global,
     variables: usize,
     bytes: &[u8],
 ) -> Result<Option<(Option<Answer>, &[u8])>, AllocError>
-    requires { variables ≤ 65536 }
+    requires { variables ≤ limits.variables }
     ensures { IfOk result (λ o. Takes (λ x. (x.0, x.1.now)) o (model_at variables bytes.now)) }
 {
     if bytes.len() < variables {
@@ -118,7 +119,7 @@ fn ones(alloc: Global, bytes: &[u8]) -> Result<Vec<bool>, AllocError>
     Ok(found)
 }
 
-/// The goal of 8 bytes at the front, and what stands behind it.
+/// The goal of 8 bytes at the front, and what stands after it.
 fn take_goal(bytes: &[u8]) -> Option<(Option<Answer>, &[u8])>
     ensures { Takes (λ x. (x.0, x.1.now)) result (goal_at bytes.now) }
 {

@@ -12,7 +12,7 @@ use mal_base::{Name, grown};
 use mal_history::{Event, Share, Shares, append_event};
 use std::alloc::{AllocError, Global};
 
-/// Puts the text of a job's own events behind the others, after its length: a line an event.
+/// Puts the text of a job's own events after the others, after its length: a line an event.
 pub fn put_events(
     alloc: Global,
     out: &mut Vec<u8>,
@@ -44,8 +44,8 @@ fn text_of(
     Ok(out)
 }
 
-/// Puts the line of an own event behind the others, where so many revisions came before. Answers how many there are
-/// after it; a number that its type does not hold is want of memory.
+/// Puts the line of an own event after the others, where so many revisions came before. Answers how many there are
+/// after it; a number that its type does not hold is out of memory.
 fn put_own(
     alloc: Global,
     out: &mut Vec<u8>,

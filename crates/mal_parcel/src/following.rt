@@ -2,6 +2,7 @@
 //! known.
 
 ghost use Rattle.std.specs.Prelude.{◌≡◌, [], ◌∷◌, ◌++◌, ◌≤◌, false, true, drop, flat_map, is_some, length, replicate, IfOk, MatchOption, OnOk};
+ghost use Rattle.mal_base.specs.Limits.{limits};
 ghost use Rattle.mal_base.specs.declared.verdict.Outcome.TheVariants.{Ran};
 ghost use Rattle.spec_job.specs.{Lawful.{MayGrow, MayPass}, Models.{variables_of, variables_through}, SoloMachine.{Finished, Revised, Started, place_at, solo, startable}, Viewed.{and_own}};
 ghost use Rattle.spec_parcel.specs.Packed.{answer_bytes};
@@ -37,7 +38,7 @@ pub fn again<'a>(
     Ok((slices, answers))
 }
 
-/// What is left of the bytes of a job's answers behind those from this one on.
+/// What is left of the bytes of a job's answers after those from this one on.
 fn behind_new<'a>(job: &Job, known: usize, answers: &'a [u8]) -> &'a [u8]
     ensures { result.now ≡ drop (length (flat_map answer_bytes (drop known job.now.titled.state.answers))) answers.now }
 {
@@ -111,8 +112,8 @@ fn follow_next<'a>(
     Ok(rest)
 }
 
-/// The lines of the slice at the front, whether it ends a revision, and what stands behind it. None where no slice stands
-/// there.
+/// The lines of the slice at the front, whether it ends a revision, and what stands after it. None where no slice
+/// stands there.
 fn take_slice(alloc: Global, bytes: &[u8]) -> Result<Option<(Lines, bool, &[u8])>, AllocError>
     ensures { IfOk result (λ o. Takes (λ x. (x.0.lines, (x.1, x.2.now))) o (slice_at bytes.now)) }
 {
@@ -148,7 +149,7 @@ fn next_answer(
 /// How many variables a job has at the revision that is answered next.
 fn variables_now(job: &Job) -> usize
     ensures value { result ≡ variables_through job.now.titled.state.revisions (length job.now.titled.state.answers) }
-    ensures bound { result ≤ 65536 }
+    ensures bound { result ≤ limits.variables }
 {
     let revisions = job.revisions();
     let end = job.answers().len() + 1;
@@ -159,7 +160,7 @@ fn variables_now(job: &Job) -> usize
 /// How many variables these revisions have: the most that one of them has.
 fn variables_of(revisions: &[Arc<Revision>]) -> u32
     ensures value { result ≡ variables_of (shared revisions.now) }
-    ensures bound { result ≤ 65536 }
+    ensures bound { result ≤ limits.variables }
 {
     let mut variables = 0;
     for revision in revisions {

@@ -13,7 +13,7 @@ use std::alloc::{AllocError, Global};
 /// A job has this many places.
 const PLACES: u32 = 64;
 
-/// Puts how many nodes of a job have run, and then each of them by rising index, behind the others. None is out.
+/// Puts how many nodes of a job have run, and then each of them by rising index, after the others. None is out.
 pub fn put_nodes(
     alloc: Global,
     out: &mut Vec<u8>,
@@ -45,7 +45,7 @@ fn ran_indices(alloc: Global, job: &Job) -> Result<Vec<u32>, AllocError>
     Ok(indices)
 }
 
-/// Puts the nodes of a job of these indices behind the others. None is out.
+/// Puts the nodes of a job of these indices after the others. None is out.
 fn put_each(
     out: &mut Vec<u8>,
     job: &Job,
@@ -64,7 +64,7 @@ fn put_each(
     Ok(())
 }
 
-/// Puts the node of a job of this index behind the others. None is out.
+/// Puts the node of a job of this index after the others. None is out.
 fn put_at(out: &mut Vec<u8>, job: &Job, index: u32, scratch: &mut Scratch) -> Result<(), AllocError>
     requires home { starts_out job.now.titled.state.places ≡ 0 }
     requires low { index ≤ 63 }
@@ -75,7 +75,7 @@ fn put_at(out: &mut Vec<u8>, job: &Job, index: u32, scratch: &mut Scratch) -> Re
     put_node(out, index, image.as_slice())
 }
 
-/// Puts a node behind the others: its index, and the bytes of its image behind their length.
+/// Puts a node after the others: its index, and the bytes of its image after their length.
 pub fn put_node(out: &mut Vec<u8>, index: u32, image: &[u8]) -> Result<(), AllocError>
     ensures { OnOk result (out.new.items ≡ out.old.items ++ placed_bytes (record { index = index; image = image.now })) }
 {

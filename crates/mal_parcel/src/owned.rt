@@ -65,7 +65,7 @@ impl Owned {
         }
     }
 
-    /// Puts an event behind the others. After want of memory they are as before.
+    /// Puts an event after the others. If memory runs out, they are as before.
     pub fn push(&mut self, event: OwnEvent) -> Result<(), AllocError>
         ensures ok { OnOk result (self.new ≡ self.old ++ own_of event ∷ []) }
         ensures err { OnErr result (self.new ≡ self.old) }

@@ -17,7 +17,7 @@ use mal_learn::Scratch;
 use std::alloc::{AllocError, Global};
 
 /// The parcel of a job with these own events, which are lawful. No start is out, and but for its volume, which is left
-/// behind, the job did what the own events tell. Nodes that are gone are rebuilt.
+/// after, the job did what the own events tell. Nodes that are gone are rebuilt.
 pub fn packed(
     alloc: Global,
     own: Owned,
@@ -63,7 +63,7 @@ fn front_of(alloc: Global, own: &Owned, job: &Job) -> Result<Vec<u8>, AllocError
     Ok(out)
 }
 
-/// Puts a job's machine behind the others: its nodes, its slices and its answers. No start is out.
+/// Puts a job's machine after the others: its nodes, its slices and its answers. No start is out.
 fn put_machine(
     alloc: Global,
     out: &mut Vec<u8>,

@@ -9,9 +9,9 @@ use crate::owned::Owned;
 use mal_base::Name;
 use std::marker::Model;
 
-/// A job that moves: its tenant, its name, the bytes that stand for it and its own events. Contracts see the key and the
-/// own events; the type keeps that these are lawful, that no start is out behind them and no volume is left, and that
-/// the bytes are those of the job, with images that are read to their nodes.
+/// A job that moves: its tenant, its name, the bytes that stand for it and its own events. Contracts see the key and
+/// the own events; the type keeps that these are lawful, that no start is out after them and no volume is left, and
+/// that the bytes are those of the job, with images that are read to their nodes.
 #[derive(Drop)]
 pub struct Parcel {
     tenant: Name,

@@ -1,4 +1,4 @@
-//! What stands behind slices, nodes and answers.
+//! What stands after slices, nodes and answers.
 
 ghost use Rattle.std.specs.Prelude.{◌≡◌, drop, flat_map, length};
 ghost use Rattle.spec_parcel.specs.Packed.{answer_bytes};
@@ -8,7 +8,7 @@ use crate::sized::{take_number, take_sized};
 use crate::slices::take_ends;
 use mal_base::Answer;
 
-/// Whether the slice at the front ends a revision, the text of its lines, and what stands behind it.
+/// Whether the slice at the front ends a revision, the text of its lines, and what stands after it.
 pub fn take_told(bytes: &[u8]) -> Option<(bool, &[u8], &[u8])>
     ensures { Takes (λ x. (x.0, (x.1.now, x.2.now))) result (told_at bytes.now) }
 {
@@ -18,7 +18,7 @@ pub fn take_told(bytes: &[u8]) -> Option<(bool, &[u8], &[u8])>
     Some((ends, text, rest))
 }
 
-/// What stands behind the number at the front.
+/// What stands after the number at the front.
 pub fn behind_number(bytes: &[u8]) -> Option<&[u8]>
     ensures { Takes (λ x. x.now) result (behind_number bytes.now) }
 {
@@ -26,7 +26,7 @@ pub fn behind_number(bytes: &[u8]) -> Option<&[u8]>
     Some(rest)
 }
 
-/// What stands behind the slice at the front.
+/// What stands after the slice at the front.
 fn behind_slice(bytes: &[u8]) -> Option<&[u8]>
     ensures { Takes (λ x. x.now) result (behind_slice bytes.now) }
 {
@@ -34,7 +34,7 @@ fn behind_slice(bytes: &[u8]) -> Option<&[u8]>
     Some(rest)
 }
 
-/// What stands behind so many slices.
+/// What stands after so many slices.
 pub fn behind_slices(count: u64, bytes: &[u8]) -> Option<&[u8]>
     ensures { Takes (λ x. x.now) result (behind_each behind_slice count bytes.now) }
 {
@@ -45,7 +45,7 @@ pub fn behind_slices(count: u64, bytes: &[u8]) -> Option<&[u8]>
     Some(rest)
 }
 
-/// The index and the image of the node at the front, and what stands behind them.
+/// The index and the image of the node at the front, and what stands after them.
 pub fn take_placed(bytes: &[u8]) -> Option<(u64, &[u8], &[u8])>
     ensures { Takes (λ x. (x.0, (x.1.now, x.2.now))) result (placed_at bytes.now) }
 {
@@ -54,7 +54,7 @@ pub fn take_placed(bytes: &[u8]) -> Option<(u64, &[u8], &[u8])>
     Some((index, image, rest))
 }
 
-/// What stands behind the node at the front.
+/// What stands after the node at the front.
 fn behind_node(bytes: &[u8]) -> Option<&[u8]>
     ensures { Takes (λ x. x.now) result (behind_node bytes.now) }
 {
@@ -62,7 +62,7 @@ fn behind_node(bytes: &[u8]) -> Option<&[u8]>
     Some(rest)
 }
 
-/// What stands behind so many nodes.
+/// What stands after so many nodes.
 pub fn behind_nodes(count: u64, bytes: &[u8]) -> Option<&[u8]>
     ensures { Takes (λ x. x.now) result (behind_each behind_node count bytes.now) }
 {
@@ -73,7 +73,7 @@ pub fn behind_nodes(count: u64, bytes: &[u8]) -> Option<&[u8]>
     Some(rest)
 }
 
-/// What stands behind the bytes of these answers, none where there are fewer.
+/// What stands after the bytes of these answers, none where there are fewer.
 pub fn behind_answers<'a>(bytes: &'a [u8], answers: &[Answer]) -> &'a [u8]
     ensures { result.now ≡ drop (length (flat_map answer_bytes answers.now)) bytes.now }
 {
@@ -84,7 +84,7 @@ pub fn behind_answers<'a>(bytes: &'a [u8], answers: &[Answer]) -> &'a [u8]
     rest
 }
 
-/// What stands behind the bytes of an answer.
+/// What stands after the bytes of an answer.
 fn behind_answer<'a>(bytes: &'a [u8], answer: &Answer) -> &'a [u8]
     ensures { result.now ≡ drop (length (answer_bytes answer.now)) bytes.now }
 {

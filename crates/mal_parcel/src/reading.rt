@@ -24,7 +24,7 @@ pub fn lines_of(alloc: Global, text: &[u8]) -> Result<Option<Lines>, AllocError>
     Ok(Some(lines))
 }
 
-/// Puts the line that a text without line end spells behind the others. Answers whether it is one of a slice.
+/// Puts the line that a text without line end spells after the others. Answers whether it is one of a slice.
 fn put_line(alloc: Global, lines: &mut Lines, line: &[u8]) -> Result<bool, AllocError>
     ensures { IfOk result (λ put. IsPut (line_in line.now) put lines.old.lines lines.new.lines) }
 {
@@ -38,8 +38,8 @@ fn put_line(alloc: Global, lines: &mut Lines, line: &[u8]) -> Result<bool, Alloc
     }
 }
 
-/// Puts a line that was read behind the others. Answers whether it is one of a slice, which a deletion and a tautology are
-/// not.
+/// Puts a line that was read after the others. Answers whether it is one of a slice, which a deletion and a tautology
+/// are not.
 fn put_read(lines: &mut Lines, read: &Line) -> Result<bool, AllocError>
     ensures { IfOk result (λ put. IsPut (line_read (Ok (seen read.now))) put lines.old.lines lines.new.lines) }
 {
@@ -52,7 +52,7 @@ fn put_read(lines: &mut Lines, read: &Line) -> Result<bool, AllocError>
     }
 }
 
-/// Puts a line behind the others.
+/// Puts a line after the others.
 fn put(
     lines: &mut Lines,
     id: ClauseId,

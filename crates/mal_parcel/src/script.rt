@@ -13,7 +13,7 @@ use mal_job::Job;
 use mal_script::{Script, ScriptJob, Step, write};
 use std::alloc::{AllocError, Global};
 
-/// Puts the text of a script behind the others, after its length.
+/// Puts the text of a script after the others, after its length.
 pub fn put_script(alloc: Global, out: &mut Vec<u8>, script: &Script) -> Result<(), AllocError>
     ensures { OnOk result (out.new.items ≡ out.old.items ++ sized (spelling script.now)) }
 {
@@ -75,7 +75,7 @@ fn steps_of(alloc: Global, events: &[OwnEvent]) -> Result<Vec<Step>, AllocError>
     Ok(steps)
 }
 
-/// Puts the step that an own event posts behind the others, where it posts one.
+/// Puts the step that an own event posts after the others, where it posts one.
 fn put_step(steps: &mut Vec<Step>, event: &OwnEvent) -> Result<(), AllocError>
     ensures { OnOk result (steps.new.items ≡ steps.old.items ++ steps_at (own_of event.now)) }
 {

@@ -1,4 +1,4 @@
-//! Numbers of 8 bytes, and bytes behind their length.
+//! Numbers of 8 bytes, and bytes after their length.
 
 ghost use Rattle.std.specs.Prelude.{◌≡◌, ◌++◌, OnOk, OnErr};
 ghost use Rattle.std.specs.Int.{w64};
@@ -8,7 +8,7 @@ ghost use Rattle.mal_parcel.specs.Taking.{Takes, front_at, number_at, sized_at};
 
 use std::alloc::AllocError;
 
-/// Puts a number of 8 bytes behind the others. Where memory is refused nothing is put.
+/// Puts a number of 8 bytes after the others. Where memory is refused nothing is put.
 #[tactic(auto, unfolding(mal_freeze::specs::Spelling::spelled))]
 pub fn put_number(out: &mut Vec<u8>, number: u64) -> Result<(), AllocError>
     ensures spelled { OnOk result (out.new.items ≡ out.old.items ++ spelled w64 number) }
@@ -17,7 +17,7 @@ pub fn put_number(out: &mut Vec<u8>, number: u64) -> Result<(), AllocError>
     out.extend_from_slice(&number.to_be_bytes())
 }
 
-/// Puts a length behind the others. Where memory is refused nothing is put.
+/// Puts a length after the others. Where memory is refused nothing is put.
 pub fn put_length(out: &mut Vec<u8>, length: usize) -> Result<(), AllocError>
     ensures spelled { OnOk result (out.new.items ≡ out.old.items ++ spelled w64 length) }
     ensures unchanged { OnErr result (out.new.items ≡ out.old.items) }
@@ -25,7 +25,7 @@ pub fn put_length(out: &mut Vec<u8>, length: usize) -> Result<(), AllocError>
     put_number(out, length as u64)
 }
 
-/// Puts bytes and before them their length behind the others. Where memory is refused nothing is put.
+/// Puts bytes and before them their length after the others. Where memory is refused nothing is put.
 #[tactic(auto, unfolding(mal_freeze::specs::Spelling::spelled))]
 pub fn put_sized(out: &mut Vec<u8>, bytes: &[u8]) -> Result<(), AllocError>
     ensures sized { OnOk result (out.new.items ≡ out.old.items ++ sized bytes.now) }
@@ -37,7 +37,7 @@ pub fn put_sized(out: &mut Vec<u8>, bytes: &[u8]) -> Result<(), AllocError>
     Ok(())
 }
 
-/// The number of the 8 bytes at the front, and what stands behind it. None where there are fewer.
+/// The number of the 8 bytes at the front, and what stands after it. None where there are fewer.
 pub fn take_number(bytes: &[u8]) -> Option<(u64, &[u8])>
     ensures { Takes (λ x. (x.0, x.1.now)) result (number_at bytes.now) }
 {
@@ -51,7 +51,7 @@ pub fn take_number(bytes: &[u8]) -> Option<(u64, &[u8])>
     Some((number, rest))
 }
 
-/// The bytes at the front that stand behind their length, and what stands behind them. None where there are fewer.
+/// The bytes at the front that stand after their length, and what stands after them. None where there are fewer.
 pub fn take_sized(bytes: &[u8]) -> Option<(&[u8], &[u8])>
     ensures { Takes (λ x. (x.0.now, x.1.now)) result (sized_at bytes.now) }
 {
@@ -59,7 +59,7 @@ pub fn take_sized(bytes: &[u8]) -> Option<(&[u8], &[u8])>
     front_at(length, rest)
 }
 
-/// So many bytes at the front, and what stands behind them. None where there are fewer.
+/// So many bytes at the front, and what stands after them. None where there are fewer.
 fn front_at(length: u64, bytes: &[u8]) -> Option<(&[u8], &[u8])>
     ensures { Takes (λ x. (x.0.now, x.1.now)) result (front_at length bytes.now) }
 {

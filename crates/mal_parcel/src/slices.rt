@@ -16,7 +16,7 @@ use mal_job::Job;
 use mal_lrat::put_added;
 use std::alloc::{AllocError, Global};
 
-/// Puts how many slices of a job were run, and then each of them, behind the others.
+/// Puts how many slices of a job were run, and then each of them, after the others.
 pub fn put_slices(alloc: Global, out: &mut Vec<u8>, job: &Job) -> Result<(), AllocError>
     ensures { OnOk result (out.new.items ≡ out.old.items ++ listed slice_bytes job.now.titled.state.slices) }
 {
@@ -24,7 +24,7 @@ pub fn put_slices(alloc: Global, out: &mut Vec<u8>, job: &Job) -> Result<(), All
     put_each(alloc, out, job)
 }
 
-/// Puts the slices of a job behind the others.
+/// Puts the slices of a job after the others.
 fn put_each(alloc: Global, out: &mut Vec<u8>, job: &Job) -> Result<(), AllocError>
     ensures { OnOk result (out.new.items ≡ out.old.items ++ flat_map slice_bytes job.now.titled.state.slices) }
 {
@@ -34,7 +34,7 @@ fn put_each(alloc: Global, out: &mut Vec<u8>, job: &Job) -> Result<(), AllocErro
     Ok(())
 }
 
-/// Puts a slice of a job behind the others, the slices counted from 0.
+/// Puts a slice of a job after the others, the slices counted from 0.
 fn put_at(alloc: Global, out: &mut Vec<u8>, job: &Job, n: usize) -> Result<(), AllocError>
     requires { n < length job.now.titled.state.slices }
     ensures { OnOk result
@@ -45,7 +45,7 @@ fn put_at(alloc: Global, out: &mut Vec<u8>, job: &Job, n: usize) -> Result<(), A
     put_slice(alloc, out, lines, ends)
 }
 
-/// Puts a slice behind the others: whether its verdict answered a revision, how many lines it logged, and their text.
+/// Puts a slice after the others: whether its verdict answered a revision, how many lines it logged, and their text.
 pub fn put_slice(
     alloc: Global,
     out: &mut Vec<u8>,
@@ -71,7 +71,7 @@ fn text_of(alloc: Global, lines: &Lines) -> Result<Vec<u8>, AllocError>
     Ok(out)
 }
 
-/// Puts the text of a line behind the others, the lines counted from 0.
+/// Puts the text of a line after the others, the lines counted from 0.
 fn put_line(out: &mut Vec<u8>, lines: &Lines, n: usize) -> Result<(), AllocError>
     requires { n < length lines.now.lines }
     ensures { OnOk result
@@ -81,7 +81,7 @@ fn put_line(out: &mut Vec<u8>, lines: &Lines, n: usize) -> Result<(), AllocError
     put_added(out, lines.id(n), lines.lits(n), lines.hints(n))
 }
 
-/// Whether the slice at the front ends a revision, which its first byte says, and what stands behind that.
+/// Whether the slice at the front ends a revision, which its first byte says, and what stands after that.
 pub fn take_ends(bytes: &[u8]) -> Option<(bool, &[u8])>
     ensures { Takes (λ x. (x.0, x.1.now)) result (ends_at bytes.now) }
 {

@@ -122,7 +122,7 @@ fn wake(alloc: Global, job: &mut Job, count: u64, nodes: &[u8]) -> Result<(), Al
     Ok(())
 }
 
-/// Puts the node at the front where its journal is. Answers what stands behind it.
+/// Puts the node at the front where its journal is. Answers what stands after it.
 fn wake_next<'a>(alloc: Global, job: &mut Job, nodes: &'a [u8]) -> Result<&'a [u8], AllocError>
     requires { IsNext job.old.titled.state nodes.now }
     ensures same { job.new ≡ job.old }
@@ -161,7 +161,7 @@ fn machine_at(bytes: &[u8]) -> Option<Machine<'_>>
     })
 }
 
-/// What stands behind the magic word, the script and the own events.
+/// What stands after the magic word, the script and the own events.
 fn behind_texts(bytes: &[u8]) -> Option<&[u8]>
     ensures { Takes (λ x. x.now) result (behind_texts bytes.now) }
 {
@@ -171,7 +171,7 @@ fn behind_texts(bytes: &[u8]) -> Option<&[u8]>
     Some(rest)
 }
 
-/// What stands behind the magic word.
+/// What stands after the magic word.
 fn behind_magic(bytes: &[u8]) -> Option<&[u8]>
     ensures { Takes (λ x. x.now) result (behind_magic bytes.now) }
 {

@@ -1,13 +1,13 @@
--- The calls of a hall but the recall lose no lease, and a lease that is picked is its worker's.
-use Rattle.std.proofs.Common.{◌≡◌, ℕ, Bool, true, false, ◌||◌, ◌&&◌, List, [], ◌∷◌, refl, ◌∙◌, ap, Result, Ok, Err}
+-- The calls of a service lose no lease, and a lease that is picked is its worker's.
+use Rattle.std.proofs.Common.{◌≡◌, ℕ, Bool, true, false, ◌||◌, ◌&&◌, List, [], ◌∷◌, ◌++◌, refl, sym, ◌∙◌, ap, subst, Result, Ok, Err}
 use Rattle.std.specs.List.{list_all, list_any}
 use Rattle.mal_base.specs.declared.verdict.Outcome.{Outcome}
 use Rattle.mal_base.specs.declared.verdict.Outcome.TheVariants.{Ran, Starved, Lost}
-use Rattle.mal_hall.specs.declared.desk.Post.{Post}
-use Rattle.mal_hall.specs.declared.desk.Post.TheVariants as posts
-use Rattle.mal_hall.specs.declared.desk.PostFault.{PostFault}
-use Rattle.mal_hall.specs.declared.desk.PostFault.TheVariants as faults
-use Rattle.mal_hall.specs.Desks.{HasPosted, IsOwn}
+use Rattle.mal_hall.specs.Desks.{IsOwn}
+use Rattle.mal_pool.specs.RecordLaws.{RecordsLoseNone}
+use Rattle.mal_service.specs.Passes.{LeavesHall}
+use Rattle.mal_service.specs.Record.{Answered, Opened, Revised, Reasked, Closed, Asked, Picked, Gave, AreAnsweredFrom, Entry, IsAnswered, Record, events_of}
+use Rattle.mal_turn.specs.declared.view.View.{View}
 use Rattle.spec_job.specs.Journal.{JournalEntry}
 use Rattle.spec_job.specs.Journaled.{Journaled}
 use Rattle.spec_job.specs.Leased.{Finished}
@@ -20,10 +20,11 @@ use Rattle.mal_base.specs.declared.hall_fault.ReaskFault.{ReaskFault}
 use Rattle.mal_base.specs.declared.hall_fault.ReaskFault.TheVariants as reasking
 use Rattle.mal_base.specs.declared.hall_fault.CloseFault.{CloseFault}
 use Rattle.mal_base.specs.declared.hall_fault.CloseFault.TheVariants as closing
+use Rattle.mal_base.specs.declared.hall_fault.ReplyFault.TheVariants as asking
 use Rattle.mal_base.specs.declared.hall_fault.PickFault.{PickFault}
 use Rattle.mal_base.specs.declared.hall_fault.PickFault.TheVariants as picking
 use Rattle.spec_hall.specs.Calls as calls
-use Rattle.spec_hall.specs.Calls.{HasCalled, Opens, Revises, Reasks, Closes, Picks, Finishes, Offer, Leased, Idle, AllDone, Return, IsOpening, IsRevising, IsReasking, IsClosing, IsPicking, IsReturning, AreDue, arranges}
+use Rattle.spec_hall.specs.Calls.{Offer, Leased, Idle, AllDone, Return, IsOpening, IsRevising, IsReasking, IsClosing, IsPicking, IsReturning, AreDue, arranges}
 use Rattle.spec_hall.specs.Driven.{was_lost}
 use Rattle.spec_hall.specs.Events.{Event, Open, Revise, Reask, Close, Balance, Start, Finish, Exchange, Leave, Arrive}
 use Rattle.spec_run.specs.Losses.{is_loss, NoneIsLost}
@@ -95,49 +96,31 @@ closing-loses past k (Ok done) es is = ap (list_any is_loss) is.2
 closing-loses past k (Err closing.NoJob) es is = nothing es is.1
 closing-loses past k (Err closing.Closed) es is = nothing es is.3
 
-pub pick_loses_none : (w : ℕ) (past : List Event) (worker : ℕ) (answer : Result Offer PickFault) (now : List Event) → HasCalled w past (Picks worker) answer now → NoneIsLost past → NoneIsLost now
-pick_loses_none w past worker answer now called none = ap (list_any is_loss) called.grown ∙ parts-lose-none past called.events none (picking-loses w past worker answer called.events called.call)
+answered-loses-none : (w : ℕ) (past : List Event) (c : Answered) (es : List Event) → IsAnswered w past c es → NoneIsLost es
+answered-loses-none w past (Opened k ask answer) es call = opening-loses past k ask answer es call
+answered-loses-none w past (Revised k r answer) es call = revising-loses past k r answer es call
+answered-loses-none w past (Reasked k weight answer) es call = reasking-loses past k weight answer es call
+answered-loses-none w past (Closed k answer) es call = closing-loses past k answer es call
+answered-loses-none w past (Asked k r (Ok text)) es call = nothing es call.3
+answered-loses-none w past (Asked k r (Err asking.NoJob)) es call = nothing es call.1
+answered-loses-none w past (Asked k r (Err asking.OutOfMemory)) es call = nothing es call.2
+answered-loses-none w past (Picked worker answer) es call = picking-loses w past worker answer es call
+answered-loses-none w past (Gave d answer) es call = returning-loses past d answer es call
 
-pub finish_loses_none : (w : ℕ) (past : List Event) (d : Finished) (answer : Return) (now : List Event) → HasCalled w past (Finishes d) answer now → NoneIsLost past → NoneIsLost now
-finish_loses_none w past d answer now called none = ap (list_any is_loss) called.grown ∙ parts-lose-none past called.events none (returning-loses past d answer called.events called.call)
+answers-lose-none : (w : ℕ) (past : List Event) (log : Record) → AreAnsweredFrom w past log → NoneIsLost (events_of log)
+answers-lose-none w past [] calls = refl
+answers-lose-none w past (e ∷ es) calls = parts-lose-none e.1.events (events_of es) (answered-loses-none w past e.1.call e.1.events calls.0) (answers-lose-none w (past ++ e.1.events) es calls.1)
 
-open-loses-none : (w : ℕ) (past : List Event) (k : _) (ask : _) (answer : Result (Unit {0}) OpenFault) (now : List Event) → HasCalled w past (Opens k ask) answer now → NoneIsLost past → NoneIsLost now
-open-loses-none w past k ask answer now called none = ap (list_any is_loss) called.grown ∙ parts-lose-none past called.events none (opening-loses past k ask answer called.events called.call)
+pub record-loses-none : RecordsLoseNone
+record-loses-none w log legal = answers-lose-none w [] log legal.answers
 
-revise-loses-none : (w : ℕ) (past : List Event) (k : _) (r : _) (answer : Result (Unit {0}) ReviseFault) (now : List Event) → HasCalled w past (Revises k r) answer now → NoneIsLost past → NoneIsLost now
-revise-loses-none w past k r answer now called none = ap (list_any is_loss) called.grown ∙ parts-lose-none past called.events none (revising-loses past k r answer called.events called.call)
-
-reask-loses-none : (w : ℕ) (past : List Event) (k : _) (weight : _) (answer : Result (Unit {0}) ReaskFault) (now : List Event) → HasCalled w past (Reasks k weight) answer now → NoneIsLost past → NoneIsLost now
-reask-loses-none w past k weight answer now called none = ap (list_any is_loss) called.grown ∙ parts-lose-none past called.events none (reasking-loses past k weight answer called.events called.call)
-
-close-loses-none : (w : ℕ) (past : List Event) (k : _) (answer : Result (Unit {0}) CloseFault) (now : List Event) → HasCalled w past (Closes k) answer now → NoneIsLost past → NoneIsLost now
-close-loses-none w past k answer now called none = ap (list_any is_loss) called.grown ∙ parts-lose-none past called.events none (closing-loses past k answer called.events called.call)
-
-pub post_loses_none : (w : ℕ) (past : List Event) (post : Post) (answer : Result (Unit {0}) PostFault) (now : List Event) → HasPosted w past post answer now → NoneIsLost past → NoneIsLost now
-post_loses_none w past (posts.Open tenant job ask) (Ok done) now called none = open-loses-none w past _ ask (Ok done) now called none
-post_loses_none w past (posts.Open tenant job ask) (Err (faults.Open fault)) now called none = open-loses-none w past _ ask (Err fault) now called none
-post_loses_none w past (posts.Open tenant job ask) (Err (faults.Revise fault)) now called none = absurd called
-post_loses_none w past (posts.Open tenant job ask) (Err (faults.Reask fault)) now called none = absurd called
-post_loses_none w past (posts.Open tenant job ask) (Err (faults.Close fault)) now called none = absurd called
-post_loses_none w past (posts.Revise tenant job r) (Ok done) now called none = revise-loses-none w past _ r (Ok done) now called none
-post_loses_none w past (posts.Revise tenant job r) (Err (faults.Open fault)) now called none = absurd called
-post_loses_none w past (posts.Revise tenant job r) (Err (faults.Revise fault)) now called none = revise-loses-none w past _ r (Err fault) now called none
-post_loses_none w past (posts.Revise tenant job r) (Err (faults.Reask fault)) now called none = absurd called
-post_loses_none w past (posts.Revise tenant job r) (Err (faults.Close fault)) now called none = absurd called
-post_loses_none w past (posts.Reask tenant job weight) (Ok done) now called none = reask-loses-none w past _ weight (Ok done) now called none
-post_loses_none w past (posts.Reask tenant job weight) (Err (faults.Open fault)) now called none = absurd called
-post_loses_none w past (posts.Reask tenant job weight) (Err (faults.Revise fault)) now called none = absurd called
-post_loses_none w past (posts.Reask tenant job weight) (Err (faults.Reask fault)) now called none = reask-loses-none w past _ weight (Err fault) now called none
-post_loses_none w past (posts.Reask tenant job weight) (Err (faults.Close fault)) now called none = absurd called
-post_loses_none w past (posts.Close tenant job) (Ok done) now called none = close-loses-none w past _ (Ok done) now called none
-post_loses_none w past (posts.Close tenant job) (Err (faults.Open fault)) now called none = absurd called
-post_loses_none w past (posts.Close tenant job) (Err (faults.Revise fault)) now called none = absurd called
-post_loses_none w past (posts.Close tenant job) (Err (faults.Reask fault)) now called none = absurd called
-post_loses_none w past (posts.Close tenant job) (Err (faults.Close fault)) now called none = close-loses-none w past _ (Err fault) now called none
+-- so the hall of a closed service lost none
+pub left_loses_none : (w : ℕ) (h : List Event) (v : View Entry) → LeavesHall w h v → NoneIsLost h
+left_loses_none w h v left = subst NoneIsLost (sym left.value.1) (record-loses-none w left.log left.value.0)
 
 -- a lease that is picked is its worker's
-pub picked_own : (w : ℕ) (past : List Event) (worker : ℕ) (answer : Result Offer PickFault) (now : List Event) → HasCalled w past (Picks worker) answer now → IsOwn worker answer
-picked_own w past worker (Ok (Leased l)) now called = ap (λ (h : calls.Handed). h.worker) called.call.lease_is
-picked_own w past worker (Ok Idle) now called = tt
-picked_own w past worker (Ok AllDone) now called = tt
-picked_own w past worker (Err fault) now called = tt
+pub picked_own : (w : ℕ) (past : List Event) (worker : ℕ) (answer : Result Offer PickFault) (es : List Event) → IsPicking w past worker answer es → IsOwn worker answer
+picked_own w past worker (Ok (Leased l)) es is = ap (λ (h : calls.Handed). h.worker) is.lease_is
+picked_own w past worker (Ok Idle) es is = tt
+picked_own w past worker (Ok AllDone) es is = tt
+picked_own w past worker (Err fault) es is = tt

@@ -1,4 +1,4 @@
--- Posts behind posts, and that they lose no lease.
+-- Posts after posts, and that they lose no lease.
 use Rattle.std.proofs.Common.{◌≡◌, ℕ, ◌+◌, ◌<◌, false, List, [], ◌∷◌, ◌++◌, length, take, get_or, Option, None, refl, sym, ◌∙◌, ap, append-nil}
 use Rattle.std.specs.List.{filter_map}
 use Rattle.std.proofs.lemmas.List.{take_more}
@@ -12,7 +12,7 @@ use Rattle.spec_hall.specs.Events.{Event}
 use Rattle.spec_run.specs.Losses.{is_loss, NoneIsLost}
 use Rattle.spec_run.proofs.LossLemmas.{parts-lose-none}
 
--- posts behind posts
+-- posts after posts
 pub posted_on-parts : (h : List Event) (a b : List Post) → posted_on h (a ++ b) ≡ posted_on (posted_on h a) b
 posted_on-parts h a b = fold-append (λ (now : List Event) (p : Post). now ++ event_of now p ∷ []) h a b
 

@@ -1,10 +1,12 @@
 -- what crates above cite
-pub mod RunLosses
-pub mod CallLosses
 pub mod Knowing
-pub mod Withins
-pub mod Sharings
+pub mod Crossings
 -- what this crate alone cites
+pub mod CallLemmas
+pub mod CallLosses
+pub mod RunLosses
+pub mod Sharings
+mod Withins
 mod PoolLemmas
 mod Loops
 mod Playing

@@ -26,7 +26,7 @@ use Rattle.spec_run.proofs.OpenLemmas.{open-found, open-may_reask, reasked-is_op
 use Rattle.spec_run.proofs.PostingLemmas.{next-may_revise, next-weighed}
 use Rattle.spec_run.proofs.CompleteLemmas.{grown-keys, grown-complete}
 use Rattle.spec_script.specs.Formed.{IsJob}
-use Rattle.spec_script.specs.Limits.{served}
+use Rattle.mal_base.specs.Limits.{limits}
 use Rattle.spec_script.specs.Script.{ScriptedJob, Scripted, revisions_at, revisions_in}
 use Rattle.spec_script.specs.declared.step.Step.{Step}
 use Rattle.spec_script.specs.declared.step.Step.TheVariants as steps
@@ -39,8 +39,8 @@ read-front : {A : Type 0} (xs : List A) (y : A) (ys : List A) → y ≡ get_or (
 read-front [] y ys = refl
 read-front (x ∷ xs) y ys = read-front xs y ys
 
--- what a job posts behind some of its steps is legal where they are posted
-rest-legal : (w : ℕ) (j : ScriptedJob) (front back : List Step) (h : List Event) (n : ℕ) → IsJob served j → j.steps ≡ front ++ back → n ≡ length (revisions_in front) + 1 → IsOpen (key_of_job j) (revisions_in front) h → LegalFrom w h (step_events (key_of_job j) n back ++ Close (key_of_job j) ∷ [])
+-- what a job posts after some of its steps is legal where they are posted
+rest-legal : (w : ℕ) (j : ScriptedJob) (front back : List Step) (h : List Event) (n : ℕ) → IsJob limits j → j.steps ≡ front ++ back → n ≡ length (revisions_in front) + 1 → IsOpen (key_of_job j) (revisions_in front) h → LegalFrom w h (step_events (key_of_job j) n back ++ Close (key_of_job j) ∷ [])
 rest-legal w j front [] h n formed are number opened =
     ((titled h (key_of_job j), record { job = open-found (key_of_job j) (revisions_in front) h opened; open_still = opened.unclosed }), tt)
 rest-legal w j front (steps.Revise r ∷ back) h n formed are number opened = (
@@ -80,7 +80,7 @@ rest-legal w j front (steps.Reask weight ∷ back) h n formed are number opened 
     same = flat_map-append revisions_at front (steps.Reask weight ∷ []) ∙ append-nil (revisions_in front)
 
 -- all that a job posts is legal where it is open and has no revision
-pub job-legal : (w : ℕ) (h : List Event) (j : ScriptedJob) → IsOpen (key_of_job j) [] h → IsJob served j → LegalFrom w h (job_events j)
+pub job-legal : (w : ℕ) (h : List Event) (j : ScriptedJob) → IsOpen (key_of_job j) [] h → IsJob limits j → LegalFrom w h (job_events j)
 job-legal w h j opened formed = rest-legal w j [] j.steps h 1 formed refl refl opened
 
 -- a script was posted whose jobs were opened and then posted

@@ -18,7 +18,7 @@ use Rattle.spec_script.specs.Script.{ScriptedJob}
 taken-parts : (a b : List Post) → taken (a ++ b) ≡ taken a ++ taken b
 taken-parts a b = map-append (λ (p : Post). desks.Posted p (Ok tt)) a b
 
--- calls behind calls
+-- calls after calls
 further : (old before after x y : List DeskCall) → before ≡ old ++ x → after ≡ before ++ y → after ≡ old ++ (x ++ y)
 further old before after x y b a = a ∙ (ap (λ (cs : List DeskCall). cs ++ y) b ∙ append_assoc old x y)
 
@@ -45,7 +45,7 @@ posted-more tenant jobs e from to old before after (done, all, b) next a = (
       ∙ ap taken (ap (λ (ps : List Post). posts_in done ++ ps) (sym (append-nil (posts_at e))) ∙ sym (flat_map-append posts_at done (e ∷ [])))),
 )
 
--- behind the openings all that is due are the others
+-- after the openings all that is due are the others
 pub due-others : (c : Course) → c.openings ≡ [] → due c ≡ c.others
 due-others c none = ap (λ (es : List Event). es ++ c.others) none
 

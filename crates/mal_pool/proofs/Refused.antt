@@ -14,7 +14,7 @@ refused-front w h [] b r = absurd r
 refused-front w h (p ∷ a) b (inl here) = inl here
 refused-front w h (p ∷ a) b (inr later) = inr (refused-front w (h ++ event_of h p ∷ []) a b later)
 
--- one of the posts behind others is
+-- one of the posts after others is
 pub refused-behind : (w : ℕ) (h : List Event) (a b : List Post) → IsOneRefused w (posted_on h a) b → IsOneRefused w h (a ++ b)
 refused-behind w h [] b r = r
 refused-behind w h (p ∷ a) b r = inr (refused-behind w (h ++ event_of h p ∷ []) a b r)

@@ -9,8 +9,8 @@ use Rattle.mal_posts.specs.declared.cursor.Left.{Left}
 use Rattle.mal_pool.specs.Gates.{Stops}
 use Rattle.mal_pool.specs.Parts.{AreParts, HasPlayed}
 use Rattle.mal_pool.specs.Runs.{IsSettled, open_post, taken}
-use Rattle.mal_pool.specs.Sharing.{HasClosed, HasCome, HasComeBy, IsPlayedIn, IsShared, Play}
-use Rattle.mal_pool.specs.Traces.{IsWithin}
+use Rattle.mal_pool.specs.Sharing.{HasClosed, HasCome, IsPlayedIn, IsShared, Play}
+use Rattle.mal_pool.specs.Within.{IsWithin}
 use Rattle.mal_pool.specs.declared.posting.Hindered.{Hindered}
 use Rattle.mal_pool.specs.declared.role.Part.{Part}
 use Rattle.mal_pool.specs.declared.role.Played.{Played}
@@ -120,6 +120,3 @@ come_known f calls leaves known left stops w s (Err e) same hands come = tt
 come_known f calls leaves known left stops w s (Ok h) same hands (inl driven) = inl driven
 come_known f calls leaves known left stops w s (Ok h) same hands (inr (pass, (before, (was, shared)))) =
     inr (f pass, (before, (hands pass before was, subst (λ (all : List DeskCall). IsShared stops w s.jobs all before h.events) (sym (same pass)) shared)))
-
-pub come_by_calls : {P E : Type 0} (calls : P → List DeskCall) (leaves : P → List Event → Type 0) (stops : Stops) (w : ℕ) (s : Scripted) (r : Result HallView E) → IfOk r (λ h. HasCome calls leaves stops w s h.events) → IfOk r (λ h. HasComeBy stops w s h.events)
-come_by_calls calls leaves stops w s r come = come_known calls calls leaves (λ (all : List DeskCall). all) (λ all before. Unit {0}) stops w s r (λ p. refl) (λ p es was. tt) come

@@ -29,7 +29,7 @@ Passes stops w l = (stops Before l.journal.start w ≡ false) × (stops After l.
 abbrev pub Halts : Stops → ℕ → Handed → Type 0
 Halts stops w l = (stops Before l.journal.start w ≡ true) ⊎ ((stops Before l.journal.start w ≡ false) × (stops After l.journal.start w ≡ true))
 
--- leases are lost only where the gate stops some worker somewhere, and behind the first loss only the first worker
+-- leases are lost only where the gate stops some worker somewhere, and after the first loss only the first worker
 -- starts nodes
 pub record LosesByStops (stops : Stops) (history : List Event) : Type 0 where
   pub stopped : list_any is_loss history ≡ true → StopsSomewhere stops

@@ -1,5 +1,5 @@
 -- What each part of a run does.
-use Rattle.std.specs.Prelude.{◌≡◌, ℕ, zero, suc, ◌≤◌, ◌<◌, Bool, true, false, List, [], ◌++◌, length, map, min, sum_by, slice_get, Option, Some, None}
+use Rattle.std.specs.Prelude.{◌≡◌, ℕ, zero, suc, ◌≤◌, ◌<◌, Bool, true, false, List, [], ◌++◌, length, map, min, max, fold, sum_by, slice_get, Option, Some, None}
 use Rattle.std.specs.Option.{option_map}
 use Rattle.mal_hall.specs.Desks.{DeskCall}
 use Rattle.mal_pool.specs.Gates.{Stops}
@@ -13,10 +13,21 @@ use Rattle.mal_pool.specs.declared.posting.Hindered.{Hindered}
 use Rattle.spec_node.specs.Load.{counted}
 use Rattle.spec_script.specs.Formed.{tenants_of}
 use Rattle.spec_script.specs.Script.{ScriptedJob}
+use Rattle.spec_script.specs.declared.step.Step.{Step}
+use Rattle.spec_script.specs.declared.step.Step.TheVariants as steps
 
--- how many workers jobs ask for together
+-- the most workers that a job asks for at a time, after one more step: a new ask may raise it
+abbrev pub most_after : ℕ → Step → ℕ
+most_after most (steps.Revise r) = most
+most_after most (steps.Reask w) = max most w.demand
+
+-- the most workers that a job asks for at a time, by its opening or by a new ask
+abbrev pub most_of : ScriptedJob → ℕ
+most_of j = fold most_after j.ask.demand j.steps
+
+-- how many workers jobs can use together
 abbrev pub demand_of : List ScriptedJob → ℕ
-demand_of jobs = sum_by (λ j. j.ask.demand) jobs
+demand_of jobs = sum_by most_of jobs
 
 -- the tenant of the job at a place
 abbrev pub tenant_at : List ScriptedJob → ℕ → Option (List ℕ)
@@ -66,7 +77,7 @@ abbrev pub by_test : Bool → Type 0 → Type 0 → Type 0
 by_test true One Other = One
 by_test false One Other = Other
 
--- the calls of a worker, for which so many loops of so many turns are left, and whether the gate stops it: behind a loop
+-- the calls of a worker, for which so many loops of so many turns are left, and whether the gate stops it: after a loop
 -- that ends idle comes another, and the last tells whether it ended where the gate stopped the worker
 unfoldable pub AreLoops : Stops → ℕ → ℕ → ℕ → List DeskCall → Bool → Type 0
 AreLoops stops w turns zero mine stopped = (mine ≡ []) × (stopped ≡ false)

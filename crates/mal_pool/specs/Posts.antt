@@ -33,7 +33,7 @@ pub record HasRun (workers : ℕ) (s : Scripted) (h : HallView) : Type 0 where
 abbrev pub reply_to : List Event → ScriptedJob → ℕ → List ℕ
 reply_to history j number = text_or_none (reply (key_of_job j) number (solo (own (key_of_job j) history)))
 
--- the replies to the job at a place of a script, nothing behind its last
+-- the replies to the job at a place of a script, nothing after its last
 abbrev pub replies_at : List Event → List ScriptedJob → ℕ → List ℕ
 replies_at history jobs place = get_or (map (job_replies history) jobs) place []
 

@@ -31,7 +31,7 @@ posts_at event = []
 abbrev pub posts_in : List Event → List Post
 posts_in events = flat_map posts_at events
 
--- what a tenant posts behind its openings
+-- what a tenant posts after its openings
 abbrev pub behind_openings : List ℕ → List ScriptedJob → List Event
 behind_openings tenant jobs = flat_map job_events (of_tenant tenant jobs)
 
@@ -40,13 +40,13 @@ abbrev pub taken : List Post → List DeskCall
 taken ps = map (λ p. desks.Posted p (Ok tt)) ps
 
 -- the last call of a poster that is hindered before these posts: the first of them was refused; or it made none, since
--- memory was wanting for a copy of that
+-- memory ran out for a copy of that
 abbrev pub IsHindered : Hindrance → List Post → List DeskCall → Type 0
 IsHindered (hindrances.Refused fault) posts calls = (p : Post) × (later : List Post) × (posts ≡ p ∷ later) × (calls ≡ desks.Posted p (Err fault) ∷ [])
 IsHindered (hindrances.OutOfMemory error) posts calls = calls ≡ []
 
--- the poster of a tenant has posted all behind the openings, or it was hindered, and what was posted and what is left make
--- that
+-- the poster of a tenant has posted all after the openings, or it was hindered, and what was posted and what is left
+-- make that
 abbrev pub HasPosted : List ℕ → List ScriptedJob → Option Hindered → List DeskCall → Type 0
 HasPosted tenant jobs None mine = mine ≡ taken (posts_in (behind_openings tenant jobs))
 HasPosted tenant jobs (Some h) mine =
@@ -57,7 +57,7 @@ HasPosted tenant jobs (Some h) mine =
 abbrev pub left_by : List ScriptedJob → Left → List Post
 left_by jobs l = posts_in (left_in jobs l)
 
--- a history behind which these were posted, each taken
+-- a history after which these were posted, each taken
 abbrev pub posted_on : List Event → List Post → List Event
 posted_on past ps = fold (λ now p. now ++ event_of now p ∷ []) past ps
 

@@ -20,7 +20,7 @@ pub fn replies(alloc: Global, hall: &Hall, script: &Script) -> Result<Vec<u8>, A
     put_together(alloc, hall, script, Vec::new(alloc))
 }
 
-/// The same replies, made by so many threads at most. What they leave for want of memory the calling thread makes.
+/// The same replies, made by so many threads at most. What they leave when out of memory the calling thread makes.
 pub fn replies_by<R: Threads + Sync>(
     rt: &R,
     alloc: Global,
@@ -85,7 +85,7 @@ fn last_first(alloc: Global, parts: Vec<Vec<Made>>) -> Result<Vec<Made>, AllocEr
     Ok(all)
 }
 
-/// Makes the replies to the job that is next, and so on, until there is none or memory is wanting.
+/// Makes the replies to the job that is next, and so on, until there is none or memory runs out.
 fn make_next(alloc: Global, hall: &Hall, script: &Script, next: &AtomicUsize) -> Vec<Made>
     requires { (workers : ℕ) × HasRun workers script.now hall.now }
     ensures { AreMade hall.now.events script.now.jobs result.items }
@@ -101,7 +101,7 @@ fn make_next(alloc: Global, hall: &Hall, script: &Script, next: &AtomicUsize) ->
     made
 }
 
-/// Makes the replies to the job at a place, behind what was made.
+/// Makes the replies to the job at a place, after what was made.
 fn make_at(
     alloc: Global,
     hall: &Hall,

@@ -9,7 +9,7 @@ use std::sync::Wait;
 pub trait Board: Desk + Drop {
     ghost use Rattle.std.specs.Prelude.{◌≡◌, ◌<◌, List, [], ◌∷◌, ◌++◌, IfOk, IfErr};
     ghost use Rattle.mal_hall.specs.Desks.{Posted};
-    ghost use Rattle.mal_pool.specs.Traces.{IsWithin};
+    ghost use Rattle.mal_pool.specs.Within.{IsWithin};
     ghost use Rattle.spec_hall.specs.Events.{Event};
     ghost use Rattle.spec_run.specs.Losses.{NoneIsLost};
 

@@ -12,7 +12,7 @@ use mal_script::ScriptJob;
 use std::alloc::AllocError;
 
 /// Posts what posters left, in their order: true where each post is taken, false where one is refused for another cause
-/// than want of memory.
+/// than out of memory.
 pub fn post_left(hall: &mut Hall, jobs: &[ScriptJob], left: &[Left]) -> Result<bool, AllocError>
     ensures workers { hall.new.workers ≡ hall.old.workers }
     ensures events { IfOk result
@@ -57,7 +57,7 @@ fn post_due(hall: &mut Hall, due: &Due<'_>) -> Result<bool, AllocError>
     post_one(hall, post)
 }
 
-/// Posts: true where the post is taken, false where it is refused for another cause than want of memory.
+/// Posts: true where the post is taken, false where it is refused for another cause than out of memory.
 fn post_one(hall: &mut Hall, post: Post) -> Result<bool, AllocError>
     ensures workers { hall.new.workers ≡ hall.old.workers }
     ensures events { IfOk result

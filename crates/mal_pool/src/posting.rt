@@ -15,7 +15,7 @@ use mal_script::ScriptJob;
 use std::alloc::AllocError;
 use std::sync::Wait;
 
-/// What hinders a poster: its next post was refused, or memory was wanting for a copy of it.
+/// What hinders a poster: its next post was refused, or memory ran out for a copy of it.
 #[derive(Clone, Copy)]
 pub enum Hindrance {
     Refused(PostFault),
@@ -30,7 +30,7 @@ pub struct Hindered {
 }
 
 /// Opens all jobs, in the order of the script: true where each is opened, false where one is refused for another cause
-/// than want of memory.
+/// than out of memory.
 pub fn open_all<R: Wait, B: Board>(
     rt: &R,
     board: &B,
@@ -61,7 +61,7 @@ pub fn open_all<R: Wait, B: Board>(
     (pass, Ok(true))
 }
 
-/// What a refused post comes to: want of memory, or false where it was refused for another cause.
+/// What a refused post comes to: out of memory, or false where it was refused for another cause.
 pub fn refused(fault: PostFault) -> Result<bool, AllocError>
     ensures other { IfOk result (λ done. (done ≡ false) × (is_want fault ≡ false)) }
     ensures wanting { OnErr result (is_want fault ≡ true) }
@@ -75,7 +75,7 @@ pub fn refused(fault: PostFault) -> Result<bool, AllocError>
 }
 
 /// Posts the steps and the closing of a tenant's jobs, job by job. Stops at a post that is refused, or for which
-/// memory is wanting, and at no other, and hands back the place with what hindered it.
+/// memory runs out, and at no other, and hands back the place with what hindered it.
 pub fn post_all<R: Wait, B: Board>(
     rt: &R,
     board: &B,
@@ -103,7 +103,7 @@ pub fn post_all<R: Wait, B: Board>(
     (pass, None)
 }
 
-/// Posts what is due, a copy that is made before the hall is asked. A hindrance where memory was wanting for it or the
+/// Posts what is due, a copy that is made before the hall is asked. A hindrance where memory ran out for it or the
 /// post was refused.
 fn post_due<R: Wait, B: Board>(
     rt: &R,
@@ -118,7 +118,7 @@ fn post_due<R: Wait, B: Board>(
         (λ by. (last : List DeskCall) × IsHindered by (posts_at (event_of due.now)) last
         × (B.calls result.0 ≡ B.calls pass ++ last)) }
 {
-    // Made before the lock is asked for: what the hall does with it under the lock does not grow with its clauses.
+    // Made before the turn is asked for: what the hall does with it in the turn does not grow with its clauses.
     let post = match post_of(due) {
         Ok(post) => post,
         Err(error) => return (pass, Err(Hindrance::OutOfMemory(error))),

@@ -24,7 +24,7 @@ pub enum Part {
 /// How many turns a worker's loop is given.
 const TURNS: u64 = 1 << 20;
 
-/// How many loops a worker has, one behind another as long as there was nothing for it.
+/// How many loops a worker has, one after another as long as there was nothing for it.
 const LOOPS: u32 = 33;
 
 /// A part with its pass.
@@ -85,8 +85,8 @@ pub fn play<R: Wait, B: Board, G: Gate>(
     }
 }
 
-/// Works as long as there is work: in loops, each behind one that ended idle. True where the gate stopped the worker in the
-/// last of them.
+/// Works as long as there is work: in loops, each after one that ended idle. True where the gate stopped the worker in
+/// the last of them.
 fn work<R: Wait, B: Board, G: Gate>(
     rt: &R,
     board: &B,

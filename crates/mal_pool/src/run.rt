@@ -3,21 +3,22 @@
 ghost use Rattle.std.specs.Prelude.{◌≡◌, ◌≤◌, min, true, List, [], ◌++◌, map, IfOk, IfSome, OnOk};
 ghost use Rattle.std.specs.List.{All, filter_map, list_any};
 ghost use Rattle.std.specs.Option.{option_map};
-ghost use Rattle.mal_pool.specs.{Gates.{LosesByStops, StopsSomewhere}, Parts.{AreParts, ArePosters, Fits, HasPlayed, demand_of}, Posts.{HasRun}, Runs.{IsSettled, open_post, taken}, Sharing.{HasClosed, HasCome, HasComeBy}, Testing.{HasPosts}, Traces.{IsWithin}};
+ghost use Rattle.mal_pool.specs.{Gates.{LosesByStops, StopsSomewhere}, Parts.{AreParts, ArePosters, Fits, HasPlayed, demand_of}, Posts.{HasRun}, Runs.{IsSettled, open_post, taken}, Sharing.{HasClosed, HasCome, HasComeBy}, Testing.{HasPosts}, Within.{IsWithin}};
 ghost use Rattle.spec_hall.specs.{Driven.{GrowsByTurns, IsDriven}, Events.{Event}, Legal.{Legal}, States.{leases, lives, states}};
 ghost use Rattle.spec_run.specs.{Complete.{script_events}, Losses.{NoneIsLost, is_loss}};
 
 use crate::board::Board;
+use crate::demand::useful;
 use crate::gate::Gate;
 use crate::leaving::post_left;
-use crate::mutex::{OwnCalls, Shared};
 use crate::posting::{Left, open_all};
 use crate::role::{Part, Played, Role, play};
 use crate::running::{drive_once, run_alone};
-use crate::shared::HallBox;
+use crate::served::Served;
 use crate::testing::{has_lost_unasked, has_name, has_posts};
 use mal_hall::{Hall, Size};
 use mal_script::{Script, ScriptJob};
+use mal_service::Service;
 use std::alloc::{AllocError, Global};
 use std::marker::Brand;
 use std::sync::Wait;
@@ -25,7 +26,9 @@ use std::thread::{self, Threads};
 
 /// Runs a script with 1 to 64 workers. With one worker no thread is made and nothing is waited for: all jobs are
 /// opened, then job by job its revisions and its closing are posted, and the hall is driven. With more, tenants post
-/// and workers work at the same time, each in a thread where one can be had, and share the hall by a lock.
+/// and workers work at the same time, each in a thread where one can be had, and share a service: they call its hall in
+/// turns, and work outside the turn. Where the run is shared, what came before its end is a legal record, and each part
+/// played as the gate lets it.
 #[tactic(auto, using(crate::proofs::RunLosses::alone_by_stops, crate::proofs::Sharings::come_alone))]
 pub fn run_all<R: Threads + Wait + Sync, G: Gate>(
     rt: &R,
@@ -44,12 +47,11 @@ pub fn run_all<R: Threads + Wait + Sync, G: Gate>(
     if workers == 1 {
         return run_alone(alloc, script, workers);
     }
-    run_locked::<Brand, R, G>(rt, alloc, script, workers, gate)
+    run_by_service::<Brand, R, G>(rt, alloc, script, workers, gate)
 }
 
-/// Runs a script in threads that share a hall by a lock.
-#[tactic(auto, using(crate::proofs::Sharings::come_by_calls))]
-fn run_locked<S: Size + Send + Sync, R: Threads + Wait + Sync, G: Gate>(
+/// Runs a script in threads that share a service.
+fn run_by_service<S: Size + Send + Sync, R: Threads + Wait + Sync, G: Gate>(
     rt: &R,
     alloc: Global,
     script: &Script,
@@ -63,8 +65,9 @@ fn run_locked<S: Size + Send + Sync, R: Threads + Wait + Sync, G: Gate>(
     ensures came { IfOk result (λ h. HasComeBy (G.stops gate.now) workers script.now h.events) }
     ensures lost { IfOk result (λ h. LosesByStops (G.stops gate.now) h.events) }
 {
-    let board: Shared<S> = Shared::new(HallBox::new(Hall::new(alloc, workers)?));
-    run_with(rt, alloc, board, OwnCalls::new(), script, workers, gate)
+    let (service, pass) = Service::<S>::new(alloc, workers)?;
+    let board = Served::new(service);
+    run_with(rt, alloc, board, pass, script, workers, gate)
 }
 
 /// Runs a script over a board, whose hall has so many workers, 1 to 64, and no event yet. With one worker no thread is
@@ -187,7 +190,7 @@ fn take_down<B: Board>(
 }
 
 /// Posts what was left, recalls what is out, and drives the hall to its end. None where a post was refused for another
-/// cause than want of memory. Where driving wants for memory it is tried once more.
+/// cause than out of memory. Where driving runs out of memory it is tried once more.
 fn settle(
     alloc: Global,
     hall: Hall,
@@ -212,7 +215,7 @@ fn settle(
 }
 
 /// Posts what was left, recalls what is out, and drives the hall to its end: false where a post was refused for another
-/// cause than want of memory.
+/// cause than out of memory.
 fn bring_to_end(
     alloc: Global,
     hall: &mut Hall,
@@ -231,7 +234,7 @@ fn bring_to_end(
     Ok(true)
 }
 
-/// Drives a hall to its end. Where memory is wanting, the scratch is given up and it is driven once more.
+/// Drives a hall to its end. Where memory runs out, the scratch is given up and it is driven once more.
 fn drive_twice(alloc: Global, hall: &mut Hall) -> Result<(), AllocError>
     requires home { leases hall.old.events ≡ [] }
     ensures workers { hall.new.workers ≡ hall.old.workers }
@@ -245,8 +248,8 @@ fn drive_twice(alloc: Global, hall: &mut Hall) -> Result<(), AllocError>
     }
 }
 
-/// Opens all jobs, and lets posters and workers play their parts. None where a job is refused for another cause than want
-/// of memory.
+/// Opens all jobs, and lets posters and workers play their parts. None where a job is refused for another cause than
+/// out of memory.
 fn share<R: Threads + Wait + Sync, B: Board, G: Gate>(
     rt: &R,
     alloc: Global,
@@ -353,22 +356,6 @@ fn posters_of(alloc: Global, jobs: &[ScriptJob]) -> Result<Vec<Part>, AllocError
         }
     }
     Ok(posters)
-}
-
-/// How many of so many workers the jobs can use at a time: no more than they ask for together.
-fn useful(jobs: &[ScriptJob], workers: u32) -> u32
-    requires { workers ≤ 64 }
-    ensures { result ≡ min workers (demand_of jobs.now) }
-{
-    let mut sum = 0;
-    for job in jobs {
-        let demand = job.ask().demand();
-        if workers <= sum + demand {
-            return workers;
-        }
-        sum += demand;
-    }
-    sum
 }
 
 /// Gives each part a pass of its own by which no call was made, in their order.

@@ -5,7 +5,8 @@ ghost use Rattle.mal_pool.specs.Posts.{HasRun};
 ghost use Rattle.mal_posts.specs.Dues.{event_of};
 ghost use Rattle.spec_hall.specs.{Driven.{GrowsByTurns, IsDriven}, Legal.{Allowed}, States.{leases, lives, states}};
 ghost use Rattle.spec_run.specs.{Complete.{key_of_job, job_events, open_events, script_events}, Losses.{NoneIsLost}, Posting.{IsOpen}};
-ghost use Rattle.spec_script.specs.{Formed.{IsJob, MayAllFollow}, Limits.{served}};
+ghost use Rattle.mal_base.specs.Limits.{limits};
+ghost use Rattle.spec_script.specs.{Formed.{IsJob, MayAllFollow}};
 
 use crate::due::post_of;
 use crate::posting::refused;
@@ -78,7 +79,7 @@ pub fn drive_once(alloc: Global, hall: &mut Hall) -> Result<(), AllocError>
 /// Opens the jobs of a script in a hall without events.
 fn open_all(hall: &mut Hall, jobs: &[ScriptJob]) -> Result<(), AllocError>
     requires new { hall.old.events ≡ [] }
-    requires follow { MayAllFollow served [] jobs.now }
+    requires follow { MayAllFollow limits [] jobs.now }
     ensures workers { hall.new.workers ≡ hall.old.workers }
     ensures events { OnOk result (hall.new.events ≡ open_events jobs.now) }
 {
@@ -91,7 +92,7 @@ fn open_all(hall: &mut Hall, jobs: &[ScriptJob]) -> Result<(), AllocError>
 /// Posts the steps and the closings of a script's jobs, all of which were just opened.
 fn post_all(hall: &mut Hall, jobs: &[ScriptJob]) -> Result<(), AllocError>
     requires opened { hall.old.events ≡ open_events jobs.now }
-    requires follow { MayAllFollow served [] jobs.now }
+    requires follow { MayAllFollow limits [] jobs.now }
     ensures workers { hall.new.workers ≡ hall.old.workers }
     ensures events { OnOk result (hall.new.events ≡ hall.old.events ++ flat_map job_events jobs.now) }
 {
@@ -104,7 +105,7 @@ fn post_all(hall: &mut Hall, jobs: &[ScriptJob]) -> Result<(), AllocError>
 /// Posts the steps and the closing of a job that has no revision.
 fn post_job(hall: &mut Hall, job: &ScriptJob) -> Result<(), AllocError>
     requires opened { IsOpen (key_of_job job.now) [] hall.old.events }
-    requires formed { IsJob served job.now }
+    requires formed { IsJob limits job.now }
     ensures workers { hall.new.workers ≡ hall.old.workers }
     ensures events { OnOk result (hall.new.events ≡ hall.old.events ++ job_events job.now) }
 {

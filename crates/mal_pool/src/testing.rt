@@ -5,7 +5,8 @@ ghost use Rattle.std.specs.List.{list_any};
 ghost use Rattle.mal_pool.specs.Testing.{AreThePosts, HasStep, HasSteps, HaveContents, HasPosts, is_loss, is_move};
 ghost use Rattle.spec_hall.specs.{Dressed.{revisions_of}, Driven.{was_lost}, States.{states}};
 ghost use Rattle.spec_run.specs.Complete.{key_of_job};
-ghost use Rattle.spec_script.specs.{Formed.{MayAllFollow}, Limits.{served}, Script.{revisions_in}};
+ghost use Rattle.mal_base.specs.Limits.{limits};
+ghost use Rattle.spec_script.specs.{Formed.{MayAllFollow}, Script.{revisions_in}};
 
 use mal_base::{Name, Outcome};
 use mal_hall::Hall;
@@ -88,7 +89,7 @@ pub fn has_name(names: &[Name], tenant: Name) -> bool
 
 /// Whether the jobs of a hall have the revisions of the script's.
 fn have_contents(hall: &Hall, jobs: &[ScriptJob]) -> bool
-    requires { MayAllFollow served [] jobs.now }
+    requires { MayAllFollow limits [] jobs.now }
     ensures { IsTrue result ↔ HaveContents hall.now.events jobs.now }
 {
     for job in jobs {

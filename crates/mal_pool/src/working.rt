@@ -31,7 +31,7 @@ pub enum End {
     Strange,
     /// The gate stopped the worker.
     Stopped,
-    /// A pick wanted for memory.
+    /// A pick ran out of memory.
     OutOfMemory,
 }
 

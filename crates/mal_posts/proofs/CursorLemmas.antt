@@ -51,7 +51,7 @@ pub place-none : (tenant : List ℕ) (js : List ScriptedJob) (i n : ℕ) (jobs :
 place-none tenant js i n jobs so_far past end =
     so_far ∙ (ap (of_tenant tenant) (drop-past js i past) ∙ sym (from-past js n (slice_get_past js n (omega (arith, end)))))
 
--- the number of the next revision behind one step more
+-- the number of the next revision after one step more
 few-revisions : (s : Step) → length (revisions_at s) ≤ 1
 few-revisions (steps.Revise r) = omega arith
 few-revisions (steps.Reask w) = omega arith
@@ -128,7 +128,7 @@ next-step js l j s n numbered at step =
     ∙ (ap (λ (m : ℕ). step_event (key_of_job j) m s ∷ (events_behind (l.posted + 1) j ++ later)) (sym (numbered j at))
     ∙ ap (λ (es : List Event). step_event (key_of_job j) n s ∷ es) (sym (left-some js (record { job = l.job; posted = l.posted + 1 }) j at))))
 
--- the closing of a job behind its steps
+-- the closing of a job after its steps
 pub next-closing : (js : List ScriptedJob) (l : Left) (j : ScriptedJob) (later : ℕ) → slice_get js l.job ≡ Some j → slice_get j.steps l.posted ≡ None → of_tenant j.tenant (drop (l.job + 1) js) ≡ jobs_from js later → left_in js l ≡ Close (key_of_job j) ∷ left_in js (record { job = later; posted = 0 })
 next-closing js l j later at none place =
     let k : Key = key_of_job j in

@@ -55,11 +55,11 @@ of_tenant tenant jobs = filter (λ j. is_text tenant j.tenant) jobs
 abbrev pub jobs_from : List ScriptedJob → ℕ → List ScriptedJob
 jobs_from jobs place = option_map_or (λ j. j ∷ of_tenant j.tenant (drop (place + 1) jobs)) (slice_get jobs place) []
 
--- the number of a job's next revision behind so many of its steps
+-- the number of a job's next revision after so many of its steps
 abbrev pub number_behind : ℕ → ScriptedJob → ℕ
 number_behind n j = length (revisions_in (take n j.steps)) + 1
 
--- what a job posts behind so many of its steps: the others, and its closing
+-- what a job posts after so many of its steps: the others, and its closing
 abbrev pub events_behind : ℕ → ScriptedJob → List Event
 events_behind n j = step_events (key_of_job j) (number_behind n j) (drop n j.steps) ++ Close (key_of_job j) ∷ []
 

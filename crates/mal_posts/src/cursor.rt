@@ -57,7 +57,7 @@ impl<'a> Model for Cursor<'a> {
 
 impl<'a> Cursor<'a> {
     /// All that a tenant posts.
-    pub fn of_tenant(jobs: &'a [ScriptJob], tenant: Name) -> Cursor<'a>
+    pub(crate) fn of_tenant(jobs: &'a [ScriptJob], tenant: Name) -> Cursor<'a>
         ensures jobs { result.jobs ≡ jobs.now }
         ensures openings { result.openings ≡ open_events (of_tenant tenant jobs.now) }
         ensures others { result.others ≡ flat_map job_events (of_tenant tenant jobs.now) }
@@ -74,7 +74,7 @@ impl<'a> Cursor<'a> {
         }
     }
 
-    /// What a tenant posts behind its openings.
+    /// What a tenant posts after its openings.
     pub fn opened(jobs: &'a [ScriptJob], tenant: Name) -> Cursor<'a>
         ensures jobs { result.jobs ≡ jobs.now }
         ensures openings { result.openings ≡ [] }
@@ -91,7 +91,7 @@ impl<'a> Cursor<'a> {
         }
     }
 
-    /// What was left behind the openings: the rest of the job there, and the later jobs of its tenant.
+    /// What was left after the openings: the rest of the job there, and the later jobs of its tenant.
     pub fn of_left(jobs: &'a [ScriptJob], left: Left) -> Cursor<'a>
         ensures jobs { result.jobs ≡ jobs.now }
         ensures openings { result.openings ≡ [] }
@@ -105,7 +105,7 @@ impl<'a> Cursor<'a> {
         }
     }
 
-    /// What is posted of a job behind its opening.
+    /// What is posted of a job after its opening.
     pub fn of_job(job: &'a ScriptJob) -> Cursor<'a>
         ensures openings { result.openings ≡ [] }
         ensures others { result.others ≡ job_events job.now }
@@ -113,7 +113,7 @@ impl<'a> Cursor<'a> {
         Cursor::of_left(slice::from_ref(job), Left { job: 0, posted: 0 })
     }
 
-    /// How far the tenant has posted behind its openings.
+    /// How far the tenant has posted after its openings.
     pub fn left(&self) -> Left
         ensures { self.now.others ≡ left_in self.now.jobs result }
     {
@@ -149,7 +149,7 @@ impl<'a> Cursor<'a> {
         }
     }
 
-    /// What is due next behind the openings.
+    /// What is due next after the openings.
     fn next_other(&mut self) -> Option<Due<'a>>
         ensures jobs { self.new.jobs ≡ self.old.jobs }
         ensures openings { self.new.openings ≡ self.old.openings }
@@ -178,7 +178,7 @@ impl<'a> Cursor<'a> {
     }
 }
 
-/// The place of the next job of a tenant from a place of the script on: behind all jobs where there is none.
+/// The place of the next job of a tenant from a place of the script on: after all jobs where there is none.
 fn place_of(jobs: &[ScriptJob], tenant: Name, from: usize) -> usize
     ensures { of_tenant tenant (drop from jobs.now) ≡ jobs_from jobs.now result }
 {
@@ -215,7 +215,7 @@ fn number_at(jobs: &[ScriptJob], left: Left) -> usize
     }
 }
 
-/// The number of a job's next revision behind so many of these steps.
+/// The number of a job's next revision after so many of these steps.
 fn number_behind(steps: &[Step], posted: usize) -> usize
     ensures { result ≡ length (revisions_in (take posted steps.now)) + 1 }
 {
@@ -226,7 +226,7 @@ fn number_behind(steps: &[Step], posted: usize) -> usize
     number
 }
 
-/// The number of a job's next revision behind a step, before which it was this number.
+/// The number of a job's next revision after a step, before which it was this number.
 fn number_after(step: &Step, number: usize) -> usize
     requires { number ≤ 2 ^ 63 }
     ensures number { result ≡ number + length (revisions_at step.now) }

@@ -5,7 +5,8 @@ use Rattle.std.proofs.lemmas.Bool.{ne_eqb, leb-false}
 use Rattle.mal_base.specs.NumberedClause.{Line}
 use Rattle.spec_proof.specs.Log.{IsAbove, AreApart, IsOrderly}
 use Rattle.spec_proof.specs.Trimmed.{by_id, AreRising, IsTrimmed, with_needed, reached_in, reached}
-use Rattle.spec_proof.proofs.Among.{Among, of-all, all-from_among}
+use Rattle.spec_proof.specs.Among.{Among}
+use Rattle.spec_proof.proofs.Among.{of-all, all-from_among}
 use Rattle.spec_proof.proofs.OrderLemmas.{rising-same, sorted-trimmed}
 use Rattle.spec_proof.proofs.Reaching.{sorted-among, among-sorted, sorted-rising}
 use Rattle.mal_proof.specs.Goals.{up_to}

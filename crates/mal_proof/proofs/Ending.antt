@@ -5,7 +5,8 @@ use Rattle.std.proofs.lemmas.Bool.{eqb-true, eqb-false}
 use Rattle.mal_base.specs.NumberedClause.{Line}
 use Rattle.spec_proof.specs.Log.{IsOrderly}
 use Rattle.spec_proof.specs.Trimmed.{by_id, reached}
-use Rattle.spec_proof.proofs.Among.{Among, contains-from_among}
+use Rattle.spec_proof.specs.Among.{Among}
+use Rattle.spec_proof.proofs.Among.{contains-from_among}
 use Rattle.spec_proof.proofs.Reaching.{among-sorted, goal-is-last}
 use Rattle.mal_proof.specs.Goals.{goal_lits, last_lits}
 use Rattle.mal_proof.proofs.Bounding.{reached-nothing}

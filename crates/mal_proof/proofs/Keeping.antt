@@ -9,7 +9,7 @@ use Rattle.spec_proof.proofs.OrderLemmas.{orderly-push}
 use Rattle.mal_proof.specs.declared.chunk.Chunk.{Chunk}
 use Rattle.mal_proof.specs.Logged.{lines_in, AreCounted, LogInvariant}
 
--- a line put behind those of the last chunk stands behind all
+-- a line put after those of the last chunk stands after all
 pub lines-push : (full : List Chunk) (last now : Lined) (line : Line) → now.lines ≡ last.lines ++ line ∷ [] → lines_in full now ≡ lines_in full last ++ line ∷ []
 lines-push full last now line e = ap (λ (ls : List Line). flat_map (λ chunk. chunk.lines.lines) full ++ ls) e ∙ sym (append_assoc (flat_map (λ chunk. chunk.lines.lines) full) last.lines (line ∷ []))
 

@@ -7,7 +7,7 @@ use Rattle.mal_base.specs.Lined.{Lined}
 use Rattle.mal_proof.specs.declared.chunk.Chunk.{Chunk}
 use Rattle.mal_proof.specs.Logged.{lines_in, AreCounted, HasPlace}
 
--- chunks end one behind another
+-- chunks end one after another
 ends-above : (before : ℕ) (chunks : List Chunk) → AreCounted before chunks → (k : ℕ) (d : Chunk) → k < length chunks → before ≤ (get_or chunks k d).end
 ends-above before [] is k d low = absurd (omega arith)
 ends-above before (x ∷ xs) is zero d low = let here : x.end ≡ before + length x.lines.lines = is.0 in omega (arith, here)
@@ -41,7 +41,7 @@ pub record HasLine (all lines : List Line) (n place end : ℕ) : Type 0 where
   pub has : HasPlace lines end n
   pub same : slice_get lines (n - (end - length lines)) ≡ slice_get all place
 
--- the first chunk that ends behind a line has it
+-- the first chunk that ends after a line has it
 pub found-in : (before : ℕ) (chunks : List Chunk) (last : Lined) (i n : ℕ) (d : Chunk) → AreCounted before chunks → before ≤ n → i < length chunks
     → ((k : ℕ) → k < i → (get_or chunks k d).end ≤ n) → n < (get_or chunks i d).end
     → HasLine (lines_in chunks last) (get_or chunks i d).lines.lines n (n - before) (get_or chunks i d).end
@@ -62,7 +62,7 @@ found-in before (x ∷ xs) last (suc i) n d is past low early late =
       same = rest.same ∙ (sym (get-right x.lines.lines (lines_in xs last) (n - before) (n - x.end) (omega (arith, here, over))) ∙ ap (λ (ls : List Line). slice_get ls (n - before)) (sym (lines-first x xs last)));
     }
 
--- a line behind the end of each chunk is among the last ones
+-- a line after the end of each chunk is among the last ones
 pub found-last : (before : ℕ) (chunks : List Chunk) (last : Lined) (n : ℕ) (d : Chunk) → AreCounted before chunks → before ≤ n → n < before + length (lines_in chunks last)
     → ((k : ℕ) → k < length chunks → (get_or chunks k d).end ≤ n)
     → HasLine (lines_in chunks last) last.lines n (n - before) (before + length (lines_in chunks last))

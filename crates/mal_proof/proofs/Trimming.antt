@@ -10,7 +10,8 @@ use Rattle.mal_base.specs.NumberedClause.{Line}
 use Rattle.mal_base.specs.Lined.{Lined}
 use Rattle.spec_proof.specs.Log.{IsAbove, IsOrderly}
 use Rattle.spec_proof.specs.Trimmed.{by_id, AreRising, IsTrimmed, is_needed, with_needed, reached_in, reached, ids_of}
-use Rattle.spec_proof.proofs.Among.{Among, of-all}
+use Rattle.spec_proof.specs.Among.{Among}
+use Rattle.spec_proof.proofs.Among.{of-all}
 use Rattle.spec_proof.proofs.Reaching.{hint-there, reached-trimmed}
 use Rattle.mal_proof.specs.Marks.{AreMarks}
 use Rattle.mal_proof.specs.Goals.{up_to, goal_lits, last_lits}

@@ -36,7 +36,7 @@ fn lend<'a>(lines: &'a Lines, n: usize) -> LentLine<'a>
     }
 }
 
-/// Puts lines behind others, lent.
+/// Puts lines after others, lent.
 pub fn lend_all<'a>(all: &mut Vec<LentLine<'a>>, lines: &'a Lines) -> Result<(), AllocError>
     ensures { OnOk result (all.new.items ≡ all.old.items ++ lines.now.lines) }
 {
@@ -46,7 +46,7 @@ pub fn lend_all<'a>(all: &mut Vec<LentLine<'a>>, lines: &'a Lines) -> Result<(),
     Ok(())
 }
 
-/// Puts those lines behind others, lent, whose numbers are this one at most.
+/// Puts those lines after others, lent, whose numbers are this one at most.
 pub fn lend_up_to<'a>(
     all: &mut Vec<LentLine<'a>>,
     lines: &'a Lines,
@@ -79,7 +79,7 @@ pub fn ids_of(alloc: Global, lines: &[LentLine<'_>]) -> Result<Vec<ClauseId>, Al
     lines.iter().map(|line| line.id).collect(alloc)
 }
 
-/// Copies a line behind others.
+/// Copies a line after others.
 pub fn push(
     lines: &mut Lines,
     id: ClauseId,

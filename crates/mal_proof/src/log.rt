@@ -68,7 +68,7 @@ impl Log {
 
     /// Makes room for so many more lines with so many literals and hints. Where there is not enough, a new chunk is
     /// begun that has room for twice as many, and for some at least. The room in one respect may be less than before:
-    /// each time all that is still to come is to be asked for. After want of memory the lines and the room for more are
+    /// each time all that is still to come is to be asked for. If memory runs out, the lines and the room for more are
     /// as before.
     pub fn reserve(&mut self, lines: usize, numbers: usize) -> Result<(), AllocError>
         ensures lines { self.new.lines ≡ self.old.lines }
@@ -96,7 +96,7 @@ impl Log {
         Ok(())
     }
 
-    /// Puts a line behind the others, for which there is room. It has the number of a derived clause that is not in the
+    /// Puts a line after the others, for which there is room. It has the number of a derived clause that is not in the
     /// log and is above all its hints. Takes no memory.
     pub fn append_reserved(&mut self, id: ClauseId, lits: &[Lit], hints: &[ClauseId])
         requires room { 1 ≤ self.old.room }
@@ -124,7 +124,7 @@ impl Log {
         Ok(())
     }
 
-    /// Puts lines behind the others as a chunk of their own, for which there is room, with a mark: they are moved. With
+    /// Puts lines after the others as a chunk of their own, for which there is room, with a mark: they are moved. With
     /// those before them they have numbers of derived clauses, each once and above all its hints, so that proofs can be
     /// trimmed of them. No room is left for further single lines. A chunk without lines keeps no room. Takes no memory.
     pub fn append_chunk(&mut self, lines: Lines, ends: bool)

@@ -22,7 +22,7 @@ use Rattle.spec_run.proofs.PostingLemmas.{take-one}
 use Rattle.spec_run.specs.Complete.{IsComplete}
 use Rattle.spec_run.specs.Run.{replies}
 use Rattle.spec_script.specs.Formed.{IsScript}
-use Rattle.spec_script.specs.Limits.{served}
+use Rattle.mal_base.specs.Limits.{limits}
 use Rattle.spec_script.specs.Script.{Scripted}
 
 -- one event more was entered
@@ -62,7 +62,7 @@ lacks-posts s h hall is legal other =
     let all = all-legal s h hall is legal in
     record { events = hall.events; legal = all; lacking = λ complete. other (posted-lines s h.events hall.events all.written complete.posts) }
 
-pub is-complete : (s : Scripted) (h : Written) (hall : HallView) → IsScript served s → HasReplayed s h (length h.events) hall → Legal hall.workers hall.events → lives (states hall.events) ≡ [] → leases hall.events ≡ [] → HavePosts s h.events → IsComplete s hall.events
+pub is-complete : (s : Scripted) (h : Written) (hall : HallView) → IsScript limits s → HasReplayed s h (length h.events) hall → Legal hall.workers hall.events → lives (states hall.events) ≡ [] → leases hall.events ≡ [] → HavePosts s h.events → IsComplete s hall.events
 is-complete s h hall formed is legal answered home have =
     let written = (all-legal s h hall is legal).written in
     record { posts = lines-posted s h.events hall.events formed written have; answered = answered; home = home; stay = written-stays s h.events hall.events written }

@@ -113,7 +113,7 @@ fn enter_all(alloc: Global, script: &Script, history: &History) -> Result<Hall, 
     Ok(hall)
 }
 
-/// Enters the event at this place, counted from 0, behind those before it.
+/// Enters the event at this place, counted from 0, after those before it.
 fn enter(
     script: &Script,
     history: &History,

@@ -5,11 +5,11 @@ use Rattle.spec_text.specs.Lines.{line_of}
 use Rattle.spec_text.proofs.Again.{joined_word_by_word}
 use Rattle.spec_report.specs.Replies.{model_words}
 
--- the words of a model's literals, of the variables from this one on, each behind a space
+-- the words of a model's literals, of the variables from this one on, each after a space
 abbrev pub spaced_from : ℕ → List Bool → List ℕ
 spaced_from var model = flat_map (λ w. 32 ∷ w) (model_words var model)
 
--- nothing is left behind the last value
+-- nothing is left after the last value
 drop_past : (model : List Bool) (i : ℕ) → length model ≤ i → drop i model ≡ []
 drop_past [] zero l = refl
 drop_past [] (suc i) l = refl

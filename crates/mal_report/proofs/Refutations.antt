@@ -12,13 +12,13 @@ use Rattle.spec_lrat.specs.Written.{row_of}
 use Rattle.spec_report.specs.Replies.{proof_row}
 use Rattle.mal_lrat.specs.Spaced.{spaced}
 
--- a first word, words behind a space each, and then a line end make a line
+-- a first word, words after a space each, and then a line end make a line
 pub words_written : (old word first items out : List ℕ) (words : List (List ℕ)) → first ≡ old ++ word → items ≡ first ++ spaced words → out ≡ items ++ 10 ∷ [] → out ≡ old ++ line_of (word ∷ words)
 words_written old word first items out words d e f =
     let joined : (old ++ word) ++ spaced words ≡ old ++ join_with_byte 32 (word ∷ words) = append_assoc old word (spaced words) ∙ ap (λ (t : List ℕ). old ++ t) (sym (joined_word_by_word word words)) in
     f ∙ (ap (λ (t : List ℕ). t ++ 10 ∷ []) (e ∙ (ap (λ (t : List ℕ). t ++ spaced words) d ∙ joined)) ∙ append_assoc old (join_with_byte 32 (word ∷ words)) (10 ∷ []))
 
--- what is written behind the word `l` is a line of a proof
+-- what is written after the word `l` is a line of a proof
 pub row_written : (old first out : List ℕ) (lines : List Line) (n id : ℕ) (lits hints : List ℕ)
     → ((l : Line) → slice_get lines n ≡ Some l → id ≡ l.id) → ((l : Line) → slice_get lines n ≡ Some l → lits ≡ l.lits) → ((l : Line) → slice_get lines n ≡ Some l → hints ≡ l.hints)
     → first ≡ old ++ codes "l " → out ≡ first ++ line_of (row_of (Add id (Some lits) hints)) → (line : Line) → slice_get lines n ≡ Some line → out ≡ old ++ line_of (proof_row line)

@@ -1,30 +1,29 @@
 //! Writing replies.
 
 ghost use Rattle.std.specs.Prelude.{◌≡◌, ◌<◌, ◌≤◌, [], ◌∷◌, ◌++◌, codes, length, slice_get, Some, IfOk, OnOk};
-ghost use Rattle.mal_base.specs.{NumberedClause.{Line}, Literals.{literal}};
+ghost use Rattle.mal_base.specs.{Limits.{greatest_variable}, NumberedClause.{Line}, Literals.{literal}};
 ghost use Rattle.spec_text.specs.{Lines.{line_of, text_of}, Numbers.{literal_word}};
 ghost use Rattle.spec_report.specs.Replies.{head_words, proof_row, reply_text, told_rows};
 ghost use Rattle.mal_report.specs.{Rows.{cause_row, failed_row, model_row, proof_rows}, Told.{body_of}};
 
 use crate::told::{Cause, Told};
 use itoa::Buffer;
-use mal_base::{Lines, Lit, Name};
+use mal_base::{Lines, Lit, Name, Profile};
 use mal_lrat::{put_added, put_lits};
-use mal_text::{end_line, put_line, put_word};
+use mal_text::taker::{Taker, put_words};
+use mal_text::{end_line, put_line, put_profile, put_word};
 use std::alloc::{AllocError, Global};
 
-/// The reply to a job's revision, numbered from 1, that tells this. The job's solvers have this profile, 1 or 2.
+/// The reply to a job's revision, numbered from 1, that tells this. The job's solvers have this profile.
 #[tactic(auto, unfolding(spec_report::specs::Replies::reply_text))]
 pub fn reply(
     alloc: Global,
     tenant: &Name,
     job: &Name,
     r: u32,
-    profile: u32,
+    profile: Profile,
     told: &Told,
 ) -> Result<Vec<u8>, AllocError>
-    requires some { 1 ≤ profile }
-    requires bound { profile ≤ 2 }
     ensures { IfOk result (λ v. v.items ≡ reply_text tenant.now job.now r profile (body_of told.now)) }
 {
     let mut out = Vec::new(alloc);
@@ -33,32 +32,32 @@ pub fn reply(
     Ok(out)
 }
 
-/// Writes the first line of a reply, which names the profile where it is the second.
+/// Writes the first line of a reply, which names the profile, where it is not the first.
 #[tactic(auto, unfolding(spec_report::specs::Replies::head_words))]
 fn put_head(
     out: &mut Vec<u8>,
     tenant: &Name,
     job: &Name,
     r: u32,
-    profile: u32,
+    profile: Profile,
 ) -> Result<(), AllocError>
     ensures { OnOk result
         (out.new.items ≡ out.old.items ++ line_of (codes "r" ∷ head_words tenant.now job.now r profile)) }
 {
     let mut buffer = Buffer::new();
-    let number = buffer.format(r).as_bytes();
-    if profile == 2 {
-        put_line(
-            out,
-            b"r",
-            &[tenant.as_bytes(), job.as_bytes(), number, b"2"],
-        )
-    } else {
-        put_line(out, b"r", &[tenant.as_bytes(), job.as_bytes(), number])
-    }
+    let words = [
+        tenant.as_bytes(),
+        job.as_bytes(),
+        buffer.format(r).as_bytes(),
+    ];
+    out.put(b"r")?;
+    put_words(out, &words)?;
+    put_profile(out, profile)?;
+    end_line(out)?;
+    Ok(())
 }
 
-/// Writes the lines behind the first: the word of what is told, and what is told.
+/// Writes the lines after the first: the word of what is told, and what is told.
 fn put_told(out: &mut Vec<u8>, told: &Told) -> Result<(), AllocError>
     ensures { OnOk result (out.new.items ≡ out.old.items ++ text_of (told_rows (body_of told.now))) }
 {
@@ -100,9 +99,9 @@ pub fn put_cause(out: &mut Vec<u8>, cause: Cause) -> Result<(), AllocError>
     Ok(())
 }
 
-/// Writes the line of a model: the values of variable 1 and the next ones, at most 65,536.
+/// Writes the line of a model: the values of variable 1 and the next ones, each of which a literal can be of.
 pub fn put_model(out: &mut Vec<u8>, model: &[bool]) -> Result<(), AllocError>
-    requires { length model.now ≤ 65536 }
+    requires { length model.now ≤ greatest_variable }
     ensures { OnOk result (out.new.items ≡ out.old.items ++ line_of (model_row model.now)) }
 {
     out.push(b'v')?;
@@ -116,10 +115,10 @@ pub fn put_model(out: &mut Vec<u8>, model: &[bool]) -> Result<(), AllocError>
     Ok(())
 }
 
-/// Writes a space and then the literal that a variable, 1 to 65,536, makes true with this value.
+/// Writes a space and then the literal that a variable, which is 1 or more, makes true with this value.
 fn put_literal(out: &mut Vec<u8>, number: u32, value: bool) -> Result<(), AllocError>
     requires some { 1 ≤ number }
-    requires bound { number ≤ 65536 }
+    requires bound { number ≤ greatest_variable }
     ensures { OnOk result (out.new.items ≡ out.old.items ++ 32 ∷ literal_word (literal number value)) }
 {
     let mut buffer = Buffer::new();

@@ -2,6 +2,7 @@ use Rattle.std.proofs.Common.{◌≡◌, ℕ, ◌/◌, ◌≤◌, Bool, true, fa
 use Rattle.std.specs.List.{list_all}
 use Rattle.std.proofs.lemmas.Bool.{leb-true}
 use Rattle.std.proofs.lemmas.Bool.Decides.{nat_tests}
+use Rattle.mal_base.specs.Limits.{limits}
 use Rattle.mal_base.specs.Clauses.{rises, climbs, HaveSame, IsTautology, clash}
 use Rattle.mal_base.proofs.Sorting.{Contains-head, Contains-later, Contains-cases, and-left, and-right, and-both, rises-apart}
 use Rattle.mal_base.proofs.Tautologies.{rises-from_sorted, rising-unique, consistent-from_sorted}
@@ -53,9 +54,9 @@ first-from_clauses v (Some lits ∷ cs) h =
 
 -- where no limit is passed the parts are within them
 pub limits-from_none : (v : ℕ) (cs : List (Option (List ℕ))) → limit_passed v cs ≡ None → is_within_limits v cs ≡ true
-limits-from_none v cs none = by_tests v (length cs) (literals_of cs) (nat_lt 65536 v) (nat_lt 1048576 (length cs)) (nat_lt 16777216 (literals_of cs)) refl refl refl none
+limits-from_none v cs none = by_tests v (length cs) (literals_of cs) (nat_lt limits.variables v) (nat_lt limits.clauses (length cs)) (nat_lt limits.literals (literals_of cs)) refl refl refl none
   where
-    by_tests : (v n m : ℕ) (a b c : Bool) → nat_lt 65536 v ≡ a → nat_lt 1048576 n ≡ b → nat_lt 16777216 m ≡ c → (if a then Some Variables else if b then Some Clauses else if c then Some Literals else None) ≡ None → ((nat_le v 65536 && nat_le n 1048576) && nat_le m 16777216) ≡ true
+    by_tests : (v n m : ℕ) (a b c : Bool) → nat_lt limits.variables v ≡ a → nat_lt limits.clauses n ≡ b → nat_lt limits.literals m ≡ c → (if a then Some Variables else if b then Some Clauses else if c then Some Literals else None) ≡ None → ((nat_le v limits.variables && nat_le n limits.clauses) && nat_le m limits.literals) ≡ true
     by_tests v n m true b c p q r none = absurd (cc)
     by_tests v n m false true c p q r none = absurd (cc)
     by_tests v n m false false true p q r none = absurd (cc)
@@ -63,12 +64,12 @@ limits-from_none v cs none = by_tests v (length cs) (literals_of cs) (nat_lt 655
 
 pub none-from_limits : (v : ℕ) (cs : List (Option (List ℕ))) → is_within_limits v cs ≡ true → limit_passed v cs ≡ None
 none-from_limits v cs h =
-    let first : v ≤ 65536 = leb-true v 65536 (and-left _ _ (and-left _ _ h)) in
-    let second : length cs ≤ 1048576 = leb-true (length cs) 1048576 (and-right (nat_le v 65536) _ (and-left _ _ h)) in
-    let third : literals_of cs ≤ 16777216 = leb-true (literals_of cs) 16777216 (and-right (nat_le v 65536 && nat_le (length cs) 1048576) _ h) in
-    let a : nat_lt 65536 v ≡ false = grind (arith, nat_tests) in
-    let b : nat_lt 1048576 (length cs) ≡ false = grind (arith, nat_tests) in
-    let d : nat_lt 16777216 (literals_of cs) ≡ false = grind (arith, nat_tests) in
+    let first : v ≤ limits.variables = leb-true v limits.variables (and-left _ _ (and-left _ _ h)) in
+    let second : length cs ≤ limits.clauses = leb-true (length cs) limits.clauses (and-right (nat_le v limits.variables) _ (and-left _ _ h)) in
+    let third : literals_of cs ≤ limits.literals = leb-true (literals_of cs) limits.literals (and-right (nat_le v limits.variables && nat_le (length cs) limits.clauses) _ h) in
+    let a : nat_lt limits.variables v ≡ false = grind (arith, nat_tests) in
+    let b : nat_lt limits.clauses (length cs) ≡ false = grind (arith, nat_tests) in
+    let d : nat_lt limits.literals (literals_of cs) ≡ false = grind (arith, nat_tests) in
     rw (a, b, d) refl
 
 -- parts of which none is refused make a revision
@@ -90,7 +91,7 @@ made-from_tests v cs lits sorted same up none within limited =
       same_assumptions = same;
     }
 
--- what is shared is made, or memory was wanting
+-- what is shared is made, or memory ran out
 pub made-shared : (r : Result Posted RevisionFault) (p : Posted) (v : ℕ) (cs : List (Option (List ℕ))) (lits : List ℕ) → MatchResult r (λ x. x ≡ p) (λ e. e ≡ OutOfMemory) → IsMadeOf v cs lits p → IfOk r (λ x. IsMadeOf v cs lits x)
 made-shared (Ok x) p v cs lits is made = rw is made
 made-shared (Err e) p v cs lits is made = search
@@ -99,7 +100,7 @@ made-shared (Err e) p v cs lits is made = search
 pub consistent-from_tests : (lits sorted : List ℕ) → HaveSame lits sorted → climbs sorted ≡ true → clash sorted ≡ None → IsTautology lits → ⊥
 consistent-from_tests lits sorted same up none = consistent-from_sorted lits sorted same (rises-from_sorted sorted up none)
 
--- parts that are those of a revision are refused by want of memory alone, and make that revision
+-- parts that are those of a revision are refused by out of memory alone, and make that revision
 posted-first : (v : ℕ) (cs : List (Option (List ℕ))) (lits : List ℕ) → is_posted (record { variables = v; clauses = cs; assumptions = lits }) ≡ true → or_else (first_above v cs) (above v lits) ≡ None
 posted-first v cs lits form =
     let one : first_above v cs ≡ None = first-from_clauses v cs (and-right (is_within_limits v cs) _ (and-left _ _ form)) in

@@ -1,4 +1,5 @@
 use Rattle.std.specs.Prelude.{◌≡◌, ℕ, ◌/◌, true, nat_lt, List, [], ◌∷◌, length, Option, Some, None, if◌then◌else◌, ⊤}
+use Rattle.mal_base.specs.Limits.{limits}
 use Rattle.mal_base.specs.Clauses.{rises, HaveSame, IsTautology, IsLeastOpposite}
 use Rattle.mal_base.specs.declared.limit_kind.LimitKind.{LimitKind}
 use Rattle.mal_base.specs.declared.limit_kind.LimitKind.TheVariants.{Variables, Clauses, Literals}
@@ -27,12 +28,12 @@ abbrev pub first_above : ℕ → List (Option (List ℕ)) → Option ℕ
 first_above variables [] = None
 first_above variables (c ∷ cs) = or_else (above_in variables c) (first_above variables cs)
 
--- the first limit that is passed: 65,536 variables, 2^20 clauses, 2^24 literals
+-- the first limit that is passed: of the variables, the clauses, the literals
 abbrev pub limit_passed : ℕ → List (Option (List ℕ)) → Option LimitKind
 limit_passed variables clauses =
-    if nat_lt 65536 variables then Some Variables else
-    if nat_lt 1048576 (length clauses) then Some Clauses else
-    if nat_lt 16777216 (literals_of clauses) then Some Literals else None
+    if nat_lt limits.variables variables then Some Variables else
+    if nat_lt limits.clauses (length clauses) then Some Clauses else
+    if nat_lt limits.literals (literals_of clauses) then Some Literals else None
 
 -- no variable is assumed with both signs
 abbrev pub AreConsistent : List ℕ → Type 0

@@ -1,7 +1,7 @@
 //! A revision: clauses that are added to a job, and assumptions for one answer.
 
 ghost use Rattle.std.specs.Prelude.{◌≡◌, ◌≤◌, ◌^◌, ◌↔◌, true, IsTrue, IfOk, IfErr, MatchResult};
-ghost use Rattle.mal_base.specs.{Formulas.{literals_of}, Clauses.{climbs, HaveSame}};
+ghost use Rattle.mal_base.specs.{Limits.{limits}, Formulas.{literals_of}, Clauses.{climbs, HaveSame}};
 ghost use Rattle.mal_revision.specs.{Posted.{Posted, is_posted}, Refused.{IsMadeOf, IsRefused}, declared.fault.RevisionFault.TheVariants.{OutOfMemory}};
 
 use crate::fault::RevisionFault;
@@ -11,10 +11,9 @@ use std::alloc::{AllocError, Global};
 use std::marker::Model;
 use std::sync::Arc;
 
-/// A revision of a job: the number of its variables (at most 65,536), its clauses (at most 2^20 with at most 2^24
-/// literals; None stands for a tautology, which keeps its number and counts no literal) and its assumptions, by
-/// strictly rising variable. Contracts see the three. Copies share the lists, so that a copy takes no walk over the
-/// clauses.
+/// A revision of a job: the number of its variables and its clauses, within the limits (None stands for a tautology,
+/// which keeps its number and counts no literal), and its assumptions, by strictly rising variable. Contracts see the
+/// three. Copies share the lists, so that a copy takes no walk over the clauses.
 #[derive(Drop)]
 pub struct Revision {
     variables: u32,
@@ -141,7 +140,7 @@ impl Revision {
         self.clauses.same(&other.clauses)
     }
 
-    /// The number of variables, at most 65,536.
+    /// The number of variables, at most those that are served.
     pub fn variables(&self) -> u32
         ensures value { result ≡ self.now.variables }
         ensures form { is_posted self.now ≡ true }
@@ -149,10 +148,10 @@ impl Revision {
         self.variables
     }
 
-    /// The number of the literals of the clauses, at most 2^24. It takes no count.
+    /// The number of the literals of the clauses, at most those that are served. It takes no count.
     pub fn literals(&self) -> u32
         ensures value { result ≡ literals_of self.now.clauses }
-        ensures bound { result ≤ 2 ^ 24 }
+        ensures bound { result ≤ limits.literals }
     {
         self.clauses.literals() as u32
     }

@@ -5,7 +5,7 @@ ghost use Rattle.std.specs.List.{list_all};
 ghost use Rattle.mal_base.specs.{Clauses.{clash}, Formulas.{is_within, is_clause_of}};
 ghost use Rattle.mal_revision.specs.Refused.{above, above_in, first_above, or_else, limit_passed};
 
-use mal_base::{ClauseList, LimitKind, Lit, Var};
+use mal_base::{ClauseList, LIMITS, LimitKind, Lit, Var};
 
 /// The first variable that two literals in a row have.
 pub fn opposite(lits: &[Lit]) -> Option<Var>
@@ -80,13 +80,13 @@ pub fn above_parts(variables: u32, clauses: &ClauseList, assumptions: &[Lit]) ->
 pub fn limit_passed(variables: u32, clauses: &ClauseList) -> Option<LimitKind>
     ensures { result ≡ limit_passed variables clauses.now }
 {
-    if variables > Var::MAX {
+    if variables > LIMITS.variables {
         return Some(LimitKind::Variables);
     }
-    if clauses.len() > 1 << 20 {
+    if clauses.len() > LIMITS.clauses {
         return Some(LimitKind::Clauses);
     }
-    if clauses.literals() > 1 << 24 {
+    if clauses.literals() > LIMITS.literals {
         return Some(LimitKind::Literals);
     }
     None

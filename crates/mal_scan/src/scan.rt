@@ -1,5 +1,7 @@
 //! The engine.
 
+ghost use Rattle.mal_base.specs.Limits.{greatest_variable};
+
 use crate::batch;
 use mal_base::{ClauseId, ClauseView, Lit};
 use mal_store::Store;
@@ -21,7 +23,7 @@ impl ClauseView for Scan {
 }
 
 impl Engine for Scan {
-    ghost room = { λ s. record { variables = 65536; clauses = s.store.clause_room; literals = s.store.literal_room } };
+    ghost room = { λ s. record { variables = greatest_variable; clauses = s.store.clause_room; literals = s.store.literal_room } };
 
     ghost fits = { λ s entries processed. Unit {0} };
 

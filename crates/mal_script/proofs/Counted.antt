@@ -22,7 +22,7 @@ revisions-counted (Reask w ∷ steps) = sum_by-cons (λ (s : Step). cond (is_rev
     no-more : (m n : ℕ) → m ≡ n → 0 + m ≡ n
     no-more m n e = omega (arith, e)
 
--- with a step behind others there are as many revisions more as it posts
+-- with a step after others there are as many revisions more as it posts
 pub counted-more : (steps : List Step) (s : Step) → length (revisions_in (steps ++ s ∷ [])) ≡ length (revisions_in steps) + length (revisions_at s)
 counted-more steps s =
     ap length (flat_map-append revisions_at steps (s ∷ []))

@@ -1,7 +1,7 @@
 -- What is read is spelled, and what is spelled is read.
 use Rattle.std.proofs.Common.{◌≡◌, ℕ, List, Result, Ok, Err, IfOk, MatchResult, refl, sym, ◌∙◌, subst}
 use Rattle.mal_base.specs.declared.line_fault.LineFault.{LineFault}
-use Rattle.spec_script.specs.Limits.{Limits}
+use Rattle.mal_base.specs.declared.limits.Limits.{Limits}
 use Rattle.spec_script.specs.Script.{ScriptedJob, Scripted, spelling}
 use Rattle.spec_script.specs.Reading.{read_text}
 use Rattle.spec_script.specs.Grammar.{Spells}

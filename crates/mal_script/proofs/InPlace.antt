@@ -6,7 +6,7 @@ use Rattle.spec_text.specs.Numbers.{is_digit}
 use Rattle.mal_text.specs.Numbers.{begins_number}
 use Rattle.mal_text.proofs.Fronts.{first_of_number}
 use Rattle.spec_dimacs.specs.Reading.{Block}
-use Rattle.spec_script.specs.Limits.{Limits}
+use Rattle.mal_base.specs.declared.limits.Limits.{Limits}
 use Rattle.spec_script.specs.Reading.{OpenJob, Reading, after_row}
 use Rattle.mal_script.specs.InPlace.{in_job_of, StaysInBlock}
 

@@ -4,7 +4,7 @@ use Rattle.std.specs.Prelude.{bytes_eq}
 use Rattle.spec_dimacs.specs.Reading.{Block, ◌>>=◌}
 use Rattle.mal_base.specs.declared.line_fault.LineFault.{LineFault}
 use Rattle.mal_base.specs.declared.line_fault.LineFault.TheVariants.{BadLine}
-use Rattle.spec_script.specs.Limits.{Limits}
+use Rattle.mal_base.specs.declared.limits.Limits.{Limits}
 use Rattle.spec_script.specs.Reading.{OpenJob, Reading, going_on, after_assumptions, after_header, after_weight, inside_job, inside, after_counted}
 use Rattle.spec_script.specs.Assumptions.{closed, literals_from}
 use Rattle.spec_text.specs.Numbers.{number_in}

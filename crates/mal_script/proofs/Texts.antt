@@ -1,4 +1,4 @@
--- The texts of the parts of a script, one behind another.
+-- The texts of the parts of a script, one after another.
 use Rattle.std.proofs.Common.{◌≡◌, ℕ, List, [], ◌∷◌, ◌++◌, flat_map, length, codes, Option, refl, ap, ◌∙◌, sym, append_assoc, append-nil, take, take_all, ap₂, ◌≤◌}
 use Rattle.std.proofs.lemmas.List.Concat.{flat_map-append}
 use Rattle.spec_text.specs.Lines.{line_of, text_of}
@@ -18,11 +18,11 @@ pub texts_of : {A : Type 0} (f : A → List (List (List ℕ))) (xs : List A) →
 texts_of f [] = refl
 texts_of f (x ∷ xs) = ap (λ (rest : List ℕ). text_of (f x) ++ rest) (texts_of f xs) ∙ sym (flat_map-append line_of (f x) (flat_map f xs))
 
--- a text behind another, and a last line
+-- a text after another, and a last line
 with_last : (rows : List (List (List ℕ))) (last : List (List ℕ)) → text_of (rows ++ last ∷ []) ≡ text_of rows ++ line_of last
 with_last rows last = flat_map-append line_of rows (last ∷ []) ∙ ap (λ (rest : List ℕ). text_of rows ++ rest) (append-nil (line_of last))
 
--- four texts behind a text
+-- four texts after a text
 four : (old a b c d : List ℕ) → (((old ++ a) ++ b) ++ c) ++ d ≡ old ++ (a ++ (b ++ (c ++ d)))
 four old a b c d = simp append_assoc
 

@@ -7,7 +7,7 @@ use Rattle.spec_dimacs.specs.Reading.{Block, ◌>>=◌}
 use Rattle.spec_dimacs.specs.Reading as block
 use Rattle.mal_script.specs.ReadResult.{Leaves}
 use Rattle.mal_script.specs.declared.fault.LineRefusal.{LineRefusal}
-use Rattle.spec_script.specs.Limits.{Limits}
+use Rattle.mal_base.specs.declared.limits.Limits.{Limits}
 use Rattle.spec_script.specs.Reading.{OpenJob, Reading, in_block, inside_block, with_block, after_header, after_weight, going_on, after_row}
 
 -- the job after these words in its block, if it has one

@@ -15,7 +15,7 @@ use Rattle.mal_script.specs.declared.fault.AssumptionFault.TheVariants as assump
 abbrev pub of_jobs : List ScriptedJob → Scripted
 of_jobs jobs = record { jobs = jobs }
 
--- reading gives the fault of the refusal, of which want of memory claims nothing
+-- reading gives the fault of the refusal, of which out of memory claims nothing
 abbrev pub Fails : {Y : Type 0} → LineRefusal → Result Y LineFault → Type 0
 Fails refusal.OutOfMemory read = Unit {0}
 Fails (refusal.Fault fault) read = read ≡ Err fault

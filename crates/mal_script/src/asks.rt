@@ -1,116 +1,36 @@
 //! The asks of jobs, and what is changed of them, as they are read.
 
-ghost use Rattle.std.specs.Prelude.{◌≡◌, ◌≢◌, ◌∷◌, [], ℕ, List, ◌≤◌, ◌<◌, IfOk, MatchOption};
-ghost use Rattle.spec_text.specs.{Inputs.{words_of}, Numbers.{number_in}};
-ghost use Rattle.mal_text.specs.Numbers.{word_of};
-ghost use Rattle.spec_script.specs.Reading.{is_number, ranged, in_range, asked, profile_in, weight_in, weight_in_range, weighed};
+ghost use Rattle.std.specs.Prelude.{◌≡◌, ◌≢◌, ◌∷◌, [], ℕ, List, Err, MatchOption};
+ghost use Rattle.spec_text.specs.Inputs.{words_of};
+ghost use Rattle.spec_script.specs.Reading.{asked, of_words, weight_in, weighed};
 
 use mal_base::{Ask, LineFault, Weight};
-use mal_text::{NumberFault, first_word, number};
+use mal_text::{ask_in, first_word, profile_in};
+use spec_text::AskFault;
 
-/// Whether a word that was read as this says a number.
-fn is_number(word: Result<i64, NumberFault>) -> bool
-    ensures { result ≡ is_number (word_of word) }
+/// What words say, the fault as that of their line.
+fn of_words<X>(said: Result<X, AskFault>) -> Result<X, LineFault>
+    ensures { result ≡ of_words said }
 {
-    match word {
-        Err(NumberFault::NotANumber) => false,
-        Err(NumberFault::TooLarge) => true,
-        Ok(_) => true,
+    match said {
+        Ok(value) => Ok(value),
+        Err(AskFault::NotNumbers) => Err(LineFault::BadLine),
+        Err(AskFault::OutOfRange) => Err(LineFault::Range),
     }
 }
 
-/// The number of a word that was read as this, from 1 to `max`.
-fn ranged(word: Result<i64, NumberFault>, max: u32) -> Result<u32, LineFault>
-    ensures value { result ≡ ranged max (word_of word) }
-    ensures some { IfOk result (λ n. 1 ≤ n) }
-    ensures bound { IfOk result (λ n. n ≤ max) }
-{
-    let Ok(number) = word else {
-        return Err(LineFault::Range);
-    };
-    if number < 1 || number > i64::from(max) {
-        return Err(LineFault::Range);
-    }
-    Ok(number as u32)
-}
-
-/// The ask of words that were read as these.
-fn in_range(
-    priority: Result<i64, NumberFault>,
-    demand: Result<i64, NumberFault>,
-    slices: Result<i64, NumberFault>,
-    profile: Result<i64, NumberFault>,
-) -> Result<Ask, LineFault>
-    ensures { result ≡ in_range (word_of priority) (word_of demand) (word_of slices) (word_of profile) }
-{
-    let priority = ranged(priority, 1000)?;
-    let demand = ranged(demand, 64)?;
-    let slices = ranged(slices, 4096)?;
-    let profile = ranged(profile, 2)?;
-    let Some(ask) = Ask::of(i64::from(priority), i64::from(demand), i64::from(slices)) else {
-        unreachable!()
-    };
-    match ask.with_profile(i64::from(profile)) {
-        Some(ask) => Ok(ask),
-        None => unreachable!(),
-    }
-}
-
-/// The number that the words behind the slices say for the profile: 1 where no word stands there, and none where more
-/// than one do.
-fn profile_in(line: &[u8]) -> Result<i64, NumberFault>
-    ensures { word_of result ≡ profile_in (words_of line.now) }
-{
-    let Some((word, behind)) = first_word(line) else {
-        return Ok(1);
-    };
-    match first_word(behind) {
-        None => number(word, 2),
-        Some(_) => Err(NumberFault::NotANumber),
-    }
-}
-
-/// The ask of the words of a priority, a demand and a number of slices, and of the words behind them.
+/// The ask of the words of a priority, a demand and a number of slices, and of the words after them.
 pub fn asked(priority: &[u8], demand: &[u8], slices: &[u8], behind: &[u8]) -> Result<Ask, LineFault>
-    ensures { result
-        ≡ asked (number_in priority.now 1000) (number_in demand.now 64) (number_in slices.now 4096)
-        (profile_in (words_of behind.now)) }
+    ensures { result ≡ asked priority.now demand.now slices.now (words_of behind.now) }
 {
-    let priority = number(priority, 1000);
-    let demand = number(demand, 64);
-    let slices = number(slices, 4096);
-    let profile = profile_in(behind);
-    if !is_number(priority) || !is_number(demand) || !is_number(slices) || !is_number(profile) {
-        return Err(LineFault::BadLine);
-    }
-    in_range(priority, demand, slices, profile)
-}
-
-/// The weight of words that were read as these.
-fn weight_in_range(
-    priority: Result<i64, NumberFault>,
-    demand: Result<i64, NumberFault>,
-) -> Result<Weight, LineFault>
-    ensures { result ≡ weight_in_range (word_of priority) (word_of demand) }
-{
-    let priority = ranged(priority, 1000)?;
-    let demand = ranged(demand, 64)?;
-    match Weight::of(i64::from(priority), i64::from(demand)) {
-        Some(weight) => Ok(weight),
-        None => unreachable!(),
-    }
+    of_words(ask_in(priority, demand, slices, profile_in(behind)))
 }
 
 /// The weight of the words of a priority and a demand.
 fn weighed(priority: &[u8], demand: &[u8]) -> Result<Weight, LineFault>
-    ensures { result ≡ weighed (number_in priority.now 1000) (number_in demand.now 64) }
+    ensures { result ≡ weighed priority.now demand.now }
 {
-    let priority = number(priority, 1000);
-    let demand = number(demand, 64);
-    if !is_number(priority) || !is_number(demand) {
-        return Err(LineFault::BadLine);
-    }
-    weight_in_range(priority, demand)
+    of_words(mal_text::weight_in(priority, demand))
 }
 
 /// The weight of the words of a line, which are those of a priority and a demand.

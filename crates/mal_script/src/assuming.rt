@@ -1,7 +1,7 @@
 //! The words of assumptions, as they are read.
 
 ghost use Rattle.std.specs.Prelude.{◌≡◌, ◌≤◌, [], map, false, true, nat_abs, ℕ, None, IfOk};
-ghost use Rattle.mal_base.specs.{Clauses.{clash, rises}, Formulas.{is_within}};
+ghost use Rattle.mal_base.specs.{Limits.{greatest_variable}, Clauses.{clash, rises}, Formulas.{is_within}};
 ghost use Rattle.spec_text.specs.{Inputs.{words_of}, Numbers.{number_in}};
 ghost use Rattle.spec_dimacs.specs.Reading.{code_of};
 ghost use Rattle.spec_script.specs.Assumptions.{assumptions_in, assumptions_of, consistent, literals_from, closed};
@@ -16,13 +16,13 @@ use std::alloc::Global;
 /// The literal that a number other than 0 stands for.
 fn literal(number: i64) -> Lit
     requires some { 1 ≤ nat_abs number }
-    requires bound { nat_abs number ≤ 65536 }
+    requires bound { nat_abs number ≤ greatest_variable }
     ensures { result ≡ code_of number }
 {
     Var::of(number.unsigned_abs() as u32).literal(number > 0)
 }
 
-/// The literals behind which a 0 stands: nothing stands behind the 0, and no literal is above the variables.
+/// The literals after which a 0 stands: nothing stands after the 0, and no literal is above the variables.
 fn closed(lits: Vec<Lit>, above: bool, behind: &[u8]) -> Result<Vec<Lit>, AssumptionFault>
     ensures value { (max : ℕ)
         → GivesAssumed
@@ -38,13 +38,13 @@ fn closed(lits: Vec<Lit>, above: bool, behind: &[u8]) -> Result<Vec<Lit>, Assump
     Ok(lits)
 }
 
-/// The literals of a line's words, of variables up to this one (at most 65,536), in their order and with repeats, up to
-/// the 0 that ends the line.
+/// The literals of a line's words, of variables up to this one, in their order and with repeats, up to the 0 that ends
+/// the line.
 ///
 /// Errors, the first that holds: `BadLine` where the words have another form, `Range` where a literal is above the
 /// variables. `OutOfMemory` may come at any time.
 pub fn literals(alloc: Global, line: &[u8], variables: u32) -> Result<Vec<Lit>, AssumptionFault>
-    requires { variables ≤ 65536 }
+    requires { variables ≤ greatest_variable }
     ensures value { GivesAssumed
         (λ v. v.items) result (literals_from [] false (map (λ word. number_in word variables) (words_of line.now))) }
     ensures within { IfOk result (λ v. is_within variables v.items ≡ true) }
@@ -87,7 +87,7 @@ pub fn assumptions_in(
     line: &[u8],
     variables: u32,
 ) -> Result<Vec<Lit>, AssumptionFault>
-    requires { variables ≤ 65536 }
+    requires { variables ≤ greatest_variable }
     ensures value { GivesAssumed (λ v. v.items) result (assumptions_in variables (words_of line.now)) }
     ensures rising { IfOk result (λ v. rises v.items ≡ true) }
     ensures within { IfOk result (λ v. is_within variables v.items ≡ true) }
@@ -97,13 +97,13 @@ pub fn assumptions_in(
     consistent(sorted)
 }
 
-/// The assumptions of a line, which is the word `a`, literals of variables up to this one (at most 65,536), in any
-/// order and with repeats, and then a 0: by rising variable, each once.
+/// The assumptions of a line, which is the word `a`, literals of variables up to this one, in any order and with
+/// repeats, and then a 0: by rising variable, each once.
 ///
 /// Errors, the first that holds: `BadLine` where the line has another form, `Range` where a literal is above the
 /// variables, `Opposite` with the least variable that is assumed with both signs. `OutOfMemory` may come at any time.
 pub fn assumptions(alloc: Global, line: &[u8], variables: u32) -> Result<Vec<Lit>, AssumptionFault>
-    requires { variables ≤ 65536 }
+    requires { variables ≤ greatest_variable }
     ensures value { GivesAssumed (λ v. v.items) result (assumptions_of variables (words_of line.now)) }
     ensures rising { IfOk result (λ v. rises v.items ≡ true) }
     ensures within { IfOk result (λ v. is_within variables v.items ≡ true) }

@@ -11,7 +11,7 @@ use mal_base::{Formula, LineFault};
 use mal_dimacs::{BlockReader, DimacsError};
 use std::alloc::Global;
 
-/// The block behind the words of a header. Takes no memory.
+/// The block after the words of a header. Takes no memory.
 pub fn opened(alloc: Global, line: &[u8]) -> Result<BlockReader, LineFault>
     ensures { result ≡ in_block (dimacs.opened (words_of line.now)) }
 {

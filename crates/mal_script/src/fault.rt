@@ -8,7 +8,7 @@ use mal_base::{LineFault, Var};
 use std::alloc::AllocError;
 use thiserror::Error;
 
-/// Why a text is not read as a script: the first fault of the text with its line, counted from 1, or want of memory.
+/// Why a text is not read as a script: the first fault of the text with its line, counted from 1, or out of memory.
 #[derive(Clone, Copy, Debug, PartialEq, Eq, Drop, Error)]
 pub enum ScriptFault {
     /// This line has this fault, and no line before it has one. A text that ends inside a job is told with its last line.
@@ -19,7 +19,7 @@ pub enum ScriptFault {
     OutOfMemory,
 }
 
-/// Why a line of a script is refused: a fault, or want of memory.
+/// Why a line of a script is refused: a fault, or out of memory.
 #[derive(Clone, Copy, Debug, PartialEq, Eq, Drop)]
 pub enum LineRefusal {
     Fault(LineFault),
@@ -34,7 +34,7 @@ impl From<AllocError> for LineRefusal {
     }
 }
 
-/// Why the words behind the first of a line are no assumptions: the causes stand in the order in which they are tested.
+/// Why the words after the first of a line are no assumptions: the causes stand in the order in which they are tested.
 #[derive(Clone, Copy, Debug, PartialEq, Eq, Drop, Error)]
 pub enum AssumptionFault {
     /// A word is no number, the last is not 0, or another is 0.

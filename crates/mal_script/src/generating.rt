@@ -3,8 +3,9 @@
 ghost use Rattle.std.specs.Prelude.{◌≡◌, ◌<◌, ◌≤◌, ◌^◌, ◌∷◌, true, decimal, length, IfOk, OnOk};
 ghost use Rattle.std.specs.List.{remove, slice_index};
 ghost use Rattle.mal_base.specs.Names.{is_name};
-ghost use Rattle.spec_script.specs.Generated.{after_clause, after_clauses, after_literals, after_revision, ask_from, clause_from, clauses_from, generated, job_from, literals_from, pick, revision_from, signed, variables};
-ghost use Rattle.spec_script.specs.{Formed.{IsScript}, Limits.{served}};
+ghost use Rattle.spec_script.specs.Generated.{after_clause, after_clauses, after_literals, after_revision, ask_from, clause_from, clauses_from, generated, job_from, literals_from, most_generated, pick, revision_from, signed, variables};
+ghost use Rattle.mal_base.specs.Limits.{limits};
+ghost use Rattle.spec_script.specs.{Formed.{IsScript}};
 ghost use Rattle.spec_seq.specs.Draws.{next};
 
 use crate::script::{Script, ScriptJob};
@@ -27,9 +28,9 @@ const CLAUSES: u32 = 213;
 pub fn generate(alloc: Global, seed: u32, jobs: u32) -> Result<Script, AllocError>
     requires seed { seed < 2 ^ 31 }
     requires some { 1 ≤ jobs }
-    requires bound { jobs ≤ 256 }
+    requires bound { jobs ≤ most_generated }
     ensures value { IfOk result (λ s. s ≡ generated seed jobs) }
-    ensures formed { IfOk result (λ s. IsScript served s) }
+    ensures formed { IfOk result (λ s. IsScript limits s) }
 {
     let mut draws = Draws::new(seed);
     let mut made = Vec::new(alloc);
@@ -43,7 +44,7 @@ pub fn generate(alloc: Global, seed: u32, jobs: u32) -> Result<Script, AllocErro
 #[tactic(auto, using(crate::proofs::GenerateSteps::form_lemmas))]
 fn job(alloc: Global, number: u32, draws: &mut Draws) -> Result<ScriptJob, AllocError>
     requires some { 1 ≤ number }
-    requires bound { number ≤ 256 }
+    requires bound { number ≤ most_generated }
     ensures value { IfOk result (λ j. j ≡ job_from number draws.old) }
     ensures state { OnOk result (draws.new ≡ after_revision (next draws.old)) }
 {

@@ -1,7 +1,7 @@
 //! A job that has begun and not ended.
 
 ghost use Rattle.std.specs.Prelude.{◌≡◌, ◌+◌, ◌≤◌, ◌∷◌, length, true, is_some, Some, Ok, IfOk};
-ghost use Rattle.mal_base.specs.{Clauses.{rises}, Formulas.{is_formula, is_within, literals_of}};
+ghost use Rattle.mal_base.specs.{Limits.{limits}, Clauses.{rises}, Formulas.{is_formula, is_within, literals_of}};
 ghost use Rattle.spec_text.specs.Inputs.{words_of};
 ghost use Rattle.spec_script.specs.{Assumptions.{assumptions_in}, Reading.{begun, after_header, revised, after_assumptions, after_weight, with_revision, with_weight, unended}};
 ghost use Rattle.mal_script.specs.{InPlace.{between, in_block_of, in_its_block}, ReadResult.{Fails, Gives, Leaves}};
@@ -10,9 +10,8 @@ use crate::asks::weight_in;
 use crate::assuming::assumptions_in;
 use crate::blocks;
 use crate::fault::LineRefusal;
-use crate::limits::Limits;
 use crate::script::ScriptJob;
-use mal_base::{Ask, Formula, LimitKind, LineFault, Lit, Name, Weight};
+use mal_base::{Ask, Formula, LIMITS, LimitKind, Limits, LineFault, Lit, Name, Weight};
 use mal_dimacs::BlockReader;
 use mal_revision::Revision;
 use spec_script::Step;
@@ -41,6 +40,7 @@ pub struct OpenJob {
 
 impl Model for OpenJob {
     ghost use Rattle.std.specs.Prelude.{◌≡◌, ◌≤◌, length};
+    ghost use Rattle.mal_base.specs.Limits.{limits};
     ghost use Rattle.spec_script.specs.Reading as reading;
     ghost use Rattle.spec_script.specs.Script.{revisions};
 
@@ -48,7 +48,7 @@ impl Model for OpenJob {
 
     ghost view = { λ o. record { job = o.job; clauses = o.clauses; literals = o.literals; block = o.block } };
 
-    ghost invariant = { λ o. (o.posted ≡ length (revisions o.job)) × (o.clauses ≤ 1048576) × (o.literals ≤ 16777216) };
+    ghost invariant = { λ o. (o.posted ≡ length (revisions o.job)) × (o.clauses ≤ limits.clauses) × (o.literals ≤ limits.literals) };
 }
 
 impl OpenJob {
@@ -110,8 +110,8 @@ impl OpenJob {
         assumptions: &[Lit],
     ) -> Result<(), LineRefusal>
         requires count { literals ≡ literals_of formula.clauses }
-        requires clauses { self.old.clauses + length formula.clauses ≤ 1048576 }
-        requires literals { self.old.literals + literals ≤ 16777216 }
+        requires clauses { self.old.clauses + length formula.clauses ≤ limits.clauses }
+        requires literals { self.old.literals + literals ≤ limits.literals }
         requires form { is_formula formula ≡ true }
         requires rising { rises assumptions.now ≡ true }
         requires within { is_within formula.variables assumptions.now ≡ true }
@@ -140,13 +140,13 @@ impl OpenJob {
         ensures { Leaves result self.new (revised self.old formula assumptions.now) }
     {
         let literals = formula.literals() as usize;
-        if self.clauses + formula.clauses().len() > 1 << 20 {
+        if self.clauses + formula.clauses().len() > LIMITS.clauses {
             drop(formula);
             return Err(LineRefusal::Fault(LineFault::Limit {
                 which: LimitKind::Clauses,
             }));
         }
-        if self.literals + literals > 1 << 24 {
+        if self.literals + literals > LIMITS.literals {
             drop(formula);
             return Err(LineRefusal::Fault(LineFault::Limit {
                 which: LimitKind::Literals,
@@ -155,7 +155,7 @@ impl OpenJob {
         self.add_revision(formula, literals, assumptions)
     }
 
-    /// Reads the words behind the `a` of the line that ends this block.
+    /// Reads the words after the `a` of the line that ends this block.
     fn take_assumptions(&mut self, words: &[u8], block: BlockReader) -> Result<(), LineRefusal>
         ensures { Leaves result self.new (after_assumptions (words_of words.now) self.old block) }
     {
@@ -215,7 +215,7 @@ impl OpenJob {
         Ok(())
     }
 
-    /// Reads the words behind the `q` of a line that changes what the job asks for.
+    /// Reads the words after the `q` of a line that changes what the job asks for.
     fn take_weight(&mut self, words: &[u8]) -> Result<(), LineRefusal>
         ensures { Leaves result self.new (after_weight (words_of words.now) self.old) }
     {
@@ -287,7 +287,7 @@ fn unended(block: BlockReader) -> LineRefusal
 
 /// The assumptions of these words, the fault as that of their line.
 fn assumed(alloc: Global, words: &[u8], variables: u32) -> Result<Vec<Lit>, LineRefusal>
-    requires { variables ≤ 65536 }
+    requires { variables ≤ limits.variables }
     ensures value { Gives (λ v. v.items) result (assumptions_in variables (words_of words.now)) }
     ensures rising { IfOk result (λ v. rises v.items ≡ true) }
     ensures within { IfOk result (λ v. is_within variables v.items ≡ true) }

@@ -8,11 +8,10 @@ ghost use Rattle.mal_script.specs.{InPlace.{GoesOn, StaysInBlock, in_job_of}, Re
 
 use crate::asks::asked;
 use crate::fault::LineRefusal;
-use crate::limits::Limits;
 use crate::opened::{OpenJob, SplitLine};
 use crate::script::ScriptJob;
 use crate::taken::{TakenNames, is_among};
-use mal_base::{Ask, LimitKind, LineFault, Name};
+use mal_base::{Ask, LimitKind, Limits, LineFault, Name};
 use mal_dimacs::is_comment;
 use mal_text::{begins_number, first_word};
 use std::alloc::{AllocError, Global};
@@ -74,7 +73,7 @@ impl Reader {
         Ok(())
     }
 
-    /// Reads the words behind the `t` of a tenant's line.
+    /// Reads the words after the `t` of a tenant's line.
     fn take_tenant(&mut self, limits: Limits, words: &[u8]) -> Result<(), LineRefusal>
         ensures { Leaves result self.new (after_tenant limits (words_of words.now) self.old) }
     {
@@ -131,7 +130,7 @@ impl Reader {
         Ok(())
     }
 
-    /// Reads the words of a job's first line: its name, its priority, demand and slices, and the words behind them.
+    /// Reads the words of a job's first line: its name, its priority, demand and slices, and the words after them.
     fn take_terms(
         &mut self,
         limits: Limits,
@@ -157,7 +156,7 @@ impl Reader {
         }
     }
 
-    /// Reads the words behind the `j` of a job's first line.
+    /// Reads the words after the `j` of a job's first line.
     fn take_job(&mut self, limits: Limits, words: &[u8]) -> Result<(), LineRefusal>
         ensures { Leaves result self.new (after_job limits (words_of words.now) self.old) }
     {
@@ -203,7 +202,7 @@ impl Reader {
         }
     }
 
-    /// Puts a job that has ended behind the others.
+    /// Puts a job that has ended after the others.
     #[tactic(auto, using(crate::proofs::Names::few_jobs))]
     fn add(&mut self, job: ScriptJob) -> Result<(), AllocError>
         ensures { OnOk result (self.new ≡ with_job self.old job) }
@@ -221,7 +220,7 @@ impl Reader {
         }
     }
 
-    /// Reads the line that ends this job, given what stands behind its first word.
+    /// Reads the line that ends this job, given what stands after its first word.
     fn take_end(&mut self, job: OpenJob, words: &[u8]) -> Result<(), LineRefusal>
         ensures { Leaves result self.new (after_end (words_of words.now) job self.old) }
     {
@@ -359,7 +358,7 @@ impl Reader {
     }
 }
 
-/// Makes room for one job more behind these, and notes its names.
+/// Makes room for one job more after these, and notes its names.
 fn note(
     jobs: &mut Vec<ScriptJob>,
     names: &mut TakenNames,
@@ -386,7 +385,7 @@ fn only_word(line: &[u8]) -> Option<&[u8]>
     }
 }
 
-/// The first four words of a line, and what is behind them. None exactly where the line has fewer words.
+/// The first four words of a line, and what is after them. None exactly where the line has fewer words.
 fn four_words(line: &[u8]) -> Option<(&[u8], &[u8], &[u8], &[u8], &[u8])>
     ensures { MatchOption result
         ((a b c d : List ℕ) (behind : List (List ℕ)) → words_of line.now ≢ a ∷ b ∷ c ∷ d ∷ behind)

@@ -3,7 +3,8 @@
 ghost use Rattle.std.specs.Prelude.{◌≡◌, ◌+◌, ◌≤◌, ◌++◌, ◌∷◌, [], length, slice_get, OnOk, OnErr};
 ghost use Rattle.std.specs.{List.{count_by}, Option.{option_copied}};
 ghost use Rattle.mal_script.specs.{Counting.{is_revision, revision_of}, ReadResult.{of_jobs}};
-ghost use Rattle.spec_script.specs.{Formed.{IsScript}, Limits.{served}, Script.{revisions, revisions_at}};
+ghost use Rattle.mal_base.specs.Limits.{limits};
+ghost use Rattle.spec_script.specs.{Formed.{IsScript}, Script.{revisions, revisions_at}};
 
 use mal_base::{Ask, Name};
 use mal_revision::Revision;
@@ -41,7 +42,7 @@ impl ScriptJob {
         }
     }
 
-    /// Puts a step behind the others. After want of memory the job is as before.
+    /// Puts a step after the others. If memory runs out, the job is as before.
     pub(crate) fn push(&mut self, step: Step) -> Result<(), AllocError>
         ensures job { OnOk result
             (self.new
@@ -171,19 +172,20 @@ pub struct Script {
 
 impl Model for Script {
     ghost use Rattle.mal_script.specs.ReadResult.{of_jobs};
-    ghost use Rattle.spec_script.specs.{Formed.{IsScript}, Limits.{served}, Script.{Scripted}};
+    ghost use Rattle.mal_base.specs.Limits.{limits};
+    ghost use Rattle.spec_script.specs.{Formed.{IsScript}, Script.{Scripted}};
 
     ghost Value = { Scripted };
 
     ghost view = { λ s. record { jobs = s.jobs.items } };
 
-    ghost invariant = { λ s. IsScript served (of_jobs s.jobs.items) };
+    ghost invariant = { λ s. IsScript limits (of_jobs s.jobs.items) };
 }
 
 impl Script {
     /// The script of these jobs, which are in form and within the limits that are served. Takes no memory.
     pub fn of_form(jobs: Vec<ScriptJob>) -> Script
-        requires { IsScript served (of_jobs jobs.items) }
+        requires { IsScript limits (of_jobs jobs.items) }
         ensures { result ≡ of_jobs jobs.items }
     {
         Script { jobs }
@@ -192,7 +194,7 @@ impl Script {
     /// The jobs, in the order of the text. They are in form and within the limits that are served.
     pub fn jobs(&self) -> &[ScriptJob]
         ensures jobs { result.now ≡ self.now.jobs }
-        ensures formed { IsScript served self.now }
+        ensures formed { IsScript limits self.now }
     {
         self.jobs.as_slice()
     }

@@ -54,7 +54,7 @@ impl TakenNames {
         }
     }
 
-    /// Notes the names of a job that comes behind others. After want of memory those of the others are taken, as before.
+    /// Notes the names of a job that comes after others. If memory runs out, those of the others are taken, as before.
     pub fn note(&mut self, job: &ScriptJob) -> Result<(), AllocError>
         requires { jobs_at self.old.counts job.now.tenant < 2 ^ 63 }
         ensures noted { OnOk result

@@ -12,7 +12,7 @@ use mal_text::put_line;
 use std::alloc::{AllocError, Global};
 
 /// The line `fault: script line L` and the fault's words, as `BadLine` or `Limit Jobs`, with its line end. None exactly
-/// for want of memory.
+/// when out of memory.
 pub fn fault_line(alloc: Global, fault: ScriptFault) -> Result<Option<Vec<u8>>, AllocError>
     ensures { IfOk result (λ o. MatchOption o (fault ≡ OutOfMemory) (λ text. Tells fault text.items)) }
 {

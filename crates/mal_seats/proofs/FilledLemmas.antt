@@ -28,7 +28,7 @@ head-left [] (suc n) s ss e = absurd (cc)
 head-left (x ∷ xs) zero s ss e = let same : x ≡ s = cc in ap (λ (t : Seat). let o : Option Seat = Some t in o) same
 head-left (x ∷ xs) (suc n) s ss e = head-left xs n s ss e
 
--- and what is behind it
+-- and what is after it
 behind : (all : List Seat) (n : ℕ) (s : Seat) (ss : List Seat) → drop n all ≡ s ∷ ss → drop (suc n) all ≡ ss
 behind [] zero s ss e = absurd (cc)
 behind [] (suc n) s ss e = absurd (cc)
@@ -135,7 +135,7 @@ closed-behind gone p ps high =
     ∙ (ap (λ (b : Bool). cond b (p + 1 - 1) (p + 1) ∷ closed_up gone ps) (lt-ltb gone (p + 1) (omega arith))
     ∙ ap (λ (n : ℕ). n ∷ closed_up gone ps) back))
 
--- the places of seats behind one that is gone
+-- the places of seats after one that is gone
 filled-behind : (n gone : ℕ) (ss : List Seat) → gone ≤ n → closed_up gone (filled_from (n + 1) ss) ≡ filled_from n ss
 filled-behind n gone [] low = refl
 filled-behind n gone (s ∷ ss) low = by_volume (nat_lt 0 (volume_of s)) (filled-behind (n + 1) gone ss (omega arith))

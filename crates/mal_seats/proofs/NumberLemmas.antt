@@ -31,7 +31,7 @@ place_if-suc n ss p = by_seat (slice_get ss p)
     by_seat None = refl
     by_seat (Some t) = by_test (t.job.number == n)
 
--- the job with a number stands behind those with numbers below it, if it is there
+-- the job with a number stands after those with numbers below it, if it is there
 pub place-point : (n : ℕ) (ss : List Seat) (p : ℕ) → Rise ss → p ≤ length ss → ((k : ℕ) (d : Seat) → k < p → nat_lt (get_or ss k d).job.number n ≡ true) → ((k : ℕ) (d : Seat) → p ≤ k → k < length ss → nat_lt (get_or ss k d).job.number n ≡ false) → place_if n ss p ≡ place_numbered n ss
 place-point n [] zero rise within below above = refl
 place-point n [] (suc p) rise within below above = refl

@@ -40,6 +40,6 @@ first_among seats (at ∷ places) = if is_due_at seats at then Some at else firs
 abbrev pub moved_up : ℕ → ℕ → ℕ
 moved_up gone at = if nat_lt gone at then at - 1 else at
 
--- places without one that is gone, those behind it one less
+-- places without one that is gone, those after it one less
 abbrev pub closed_up : ℕ → List ℕ → List ℕ
 closed_up gone places = map (moved_up gone) (filter (λ at. not (at == gone)) places)

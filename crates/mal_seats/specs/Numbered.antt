@@ -17,7 +17,7 @@ abbrev pub AreAbove : ℕ → List ℕ → Type 0
 AreAbove n [] = Unit {0}
 AreAbove n (m ∷ ms) = (n < m) × AreAbove n ms
 
--- each number is below all behind it
+-- each number is below all after it
 abbrev pub AreRising : List ℕ → Type 0
 AreRising [] = Unit {0}
 AreRising (n ∷ ns) = AreAbove n ns × AreRising ns

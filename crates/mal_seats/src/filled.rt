@@ -27,7 +27,7 @@ fn is_due_at(seats: &[Seat], at: usize) -> bool
     }
 }
 
-/// Takes the place of a seat that is gone out of the places, and moves those behind it up. Takes no memory.
+/// Takes the place of a seat that is gone out of the places, and moves those after it up. Takes no memory.
 pub fn close_up(places: &mut Vec<usize>, gone: usize)
     ensures { places.new.items ≡ spec.closed_up gone places.old.items }
 {
@@ -42,7 +42,7 @@ fn without(places: &mut Vec<usize>, gone: usize)
     places.retain(|at| *at != gone);
 }
 
-/// Makes each place behind one that is gone one less.
+/// Makes each place after one that is gone one less.
 fn move_up(places: &mut [usize], gone: usize)
     ensures { places.new ≡ map (spec.moved_up gone) places.old }
 {

@@ -1,7 +1,7 @@
 //! A job of a hall in its seat.
 
 ghost use Rattle.std.specs.Prelude.{◌≡◌, ◌↔◌, ◌+◌, ◌<◌, ◌≤◌, [], ◌∷◌, ◌++◌, true, Some, IfOk, IsTrue, OnOk, OnErr, length};
-ghost use Rattle.mal_base.specs.Asks.{IsAsk};
+ghost use Rattle.mal_base.specs.{Asks.{IsAsk}, Limits.{limits}};
 ghost use Rattle.mal_base.specs.declared.verdict.Outcome.TheVariants.{Starved};
 ghost use Rattle.mal_job.specs.Finishing.{outcome_of, MayFinish, MayStarve};
 ghost use Rattle.spec_job.specs.{SoloMachine.{Revised, Reasked, Closed, Finished, Exchanged, is_exchange_due, place_at, startable, clauses_in}, Viewed.{and_own, and_start, IsLeaseOf, IsBack}};
@@ -149,7 +149,7 @@ impl Seat {
         }
     }
 
-    /// Puts what a balancing notes of the job that gives it this volume behind the shares of others.
+    /// Puts what a balancing notes of the job that gives it this volume after the shares of others.
     pub(crate) fn note_share(&self, volume: u32, shares: &mut Shares) -> Result<(), AllocError>
         ensures { OnOk result (shares.new ≡ shares.old ++ spec.share_of volume self.now ∷ []) }
     {
@@ -163,10 +163,10 @@ impl Seat {
         })
     }
 
-    /// Posts the job's next revision. After want of memory the job is as before.
+    /// Posts the job's next revision. If memory runs out, the job is as before.
     pub(crate) fn revise(&mut self, revision: Revision) -> Result<(), AllocError>
-        requires few { length self.old.job.titled.state.revisions < 256 }
-        requires clauses { clauses_in self.old.job.titled.state.revisions + length revision.clauses ≤ 1048576 }
+        requires few { length self.old.job.titled.state.revisions < limits.revisions }
+        requires clauses { clauses_in self.old.job.titled.state.revisions + length revision.clauses ≤ limits.clauses }
         ensures ok { OnOk result (self.new ≡ record self.old { job = and_own self.old.job (Revised revision) }) }
         ensures err { OnErr result (self.new ≡ self.old) }
     {
@@ -252,7 +252,7 @@ impl Seat {
         self.job.starts(index)
     }
 
-    /// Starts the node of this index, as the start of this number: hands it out to a worker. After want of memory the
+    /// Starts the node of this index, as the start of this number: hands it out to a worker. If memory runs out, the
     /// job is as before.
     pub(crate) fn start(&mut self, index: u32, worker: u32, start: u64) -> Result<Lease, AllocError>
         requires { startable self.old.job.titled.state index ≡ true }
@@ -280,7 +280,7 @@ impl Seat {
         self.job.finish(index, back);
     }
 
-    /// Ends the start that is out at this index as one that wanted for memory, of which this is kept of the node. Takes
+    /// Ends the start that is out at this index as one that ran out of memory, of which this is kept of the node. Takes
     /// no memory.
     pub(crate) fn starve(&mut self, index: u32, kept: Kept)
         requires { MayStarve self.old.job index (Some kept) }
@@ -296,7 +296,7 @@ impl Seat {
         self.job.exchange_due()
     }
 
-    /// Lets the job's nodes tell one another what they derived. After want of memory the job is as before.
+    /// Lets the job's nodes tell one another what they derived. If memory runs out, the job is as before.
     pub(crate) fn exchange(&mut self) -> Result<(), AllocError>
         ensures ok { OnOk result (self.new ≡ record self.old { job = and_own self.old.job Exchanged }) }
         ensures err { OnErr result (self.new ≡ self.old) }

@@ -2,6 +2,7 @@
 
 ghost use Rattle.std.specs.Prelude.{◌≡◌, ℕ, ◌+◌, ◌<◌, ◌≤◌, ◌^◌, [], ◌∷◌, ◌++◌, true, not, length, slice_index_or, Some, IfOk, OnOk, OnErr};
 ghost use Rattle.std.specs.{Fn.{FnOnceReturnsAtMut, FnOnceTakesAtMut}, List.{list_all, remove}};
+ghost use Rattle.mal_base.specs.Limits.{limits};
 ghost use Rattle.mal_base.specs.declared.verdict.Outcome.TheVariants.{Starved};
 ghost use Rattle.mal_job.specs.Finishing.{outcome_of, MayFinish, MayStarve};
 ghost use Rattle.mal_seats.specs.{Changed.{OfSeat, IsChanged, IsSteady, HasStepped}, Coming.{seat_of}, Numbered.{IsAbove, place_numbered}};
@@ -137,7 +138,7 @@ impl Seats {
         shares(*self.seats.allocator(), &self.seats, volumes)
     }
 
-    /// Gives the live jobs these volumes, by opening, and all others none. After want of memory the seats are as
+    /// Gives the live jobs these volumes, by opening, and all others none. If memory runs out, the seats are as
     /// before.
     pub fn balance(&mut self, volumes: &[u32]) -> Result<(), AllocError>
         requires { (n : ℕ) → volume_at volumes.now n ≤ 64 }
@@ -154,7 +155,7 @@ impl Seats {
         Ok(())
     }
 
-    /// Opens a job under a number above all others. After want of memory the seats are as before.
+    /// Opens a job under a number above all others. If memory runs out, the seats are as before.
     pub fn open(&mut self, number: u64, tenant: Name, job: Name, ask: Ask) -> Result<(), AllocError>
         requires { IsAbove number self.old }
         ensures ok { OnOk result (self.new ≡ self.old ++ spec.opened_seat number (keyed tenant job) ask ∷ []) }
@@ -167,7 +168,7 @@ impl Seats {
         self.push(seat)
     }
 
-    /// Takes a job in that comes with a number above all others and without a volume. After want of memory the seats are
+    /// Takes a job in that comes with a number above all others and without a volume. If memory runs out, the seats are
     /// as before.
     pub fn admit(&mut self, job: Job) -> Result<(), AllocError>
         requires above { IsAbove job.number self.old }
@@ -182,7 +183,7 @@ impl Seats {
         self.push(seat)
     }
 
-    /// Puts a seat behind all others, of a job that has no volume. After want of memory the seats are as before.
+    /// Puts a seat after all others, of a job that has no volume. If memory runs out, the seats are as before.
     fn push(&mut self, seat: Seat) -> Result<(), AllocError>
         requires above { IsAbove seat.job.number self.old }
         requires still { seat.job.titled.state.volume ≡ 0 }
@@ -226,12 +227,12 @@ impl Seats {
         result
     }
 
-    /// Posts the next revision of the job at a place. After want of memory the seats are as before.
+    /// Posts the next revision of the job at a place. If memory runs out, the seats are as before.
     pub fn revise(&mut self, at: usize, revision: Revision) -> Result<(), AllocError>
         requires place { at < length self.old }
-        requires few { OfSeat self.old at (λ s. length s.job.titled.state.revisions < 256) }
+        requires few { OfSeat self.old at (λ s. length s.job.titled.state.revisions < limits.revisions) }
         requires clauses { OfSeat self.old at
-            (λ s. clauses_in s.job.titled.state.revisions + length revision.clauses ≤ 1048576) }
+            (λ s. clauses_in s.job.titled.state.revisions + length revision.clauses ≤ limits.clauses) }
         ensures ok { OnOk result
             (IsChanged (λ s. record s { job = and_own s.job (Revised revision) }) at self.old self.new) }
         ensures err { OnErr result (self.new ≡ self.old) }
@@ -255,7 +256,7 @@ impl Seats {
         self.change(at, |seat| seat.close());
     }
 
-    /// Starts a node of the job at a place, as the start of this number: hands it out to a worker. After want of memory
+    /// Starts a node of the job at a place, as the start of this number: hands it out to a worker. If memory runs out,
     /// the seats are as before.
     pub fn start(
         &mut self,
@@ -286,7 +287,7 @@ impl Seats {
         self.change(at, |seat| seat.finish(index, back));
     }
 
-    /// Ends the start of the job at a place that is out at this index as one that wanted for memory, of which this is
+    /// Ends the start of the job at a place that is out at this index as one that ran out of memory, of which this is
     /// kept of the node. Takes no memory.
     pub fn starve(&mut self, at: usize, index: u32, kept: Kept)
         requires place { at < length self.old }
@@ -296,7 +297,7 @@ impl Seats {
         self.change(at, |seat| seat.starve(index, kept));
     }
 
-    /// Lets the nodes of the job at a place tell one another what they derived. After want of memory the seats are as
+    /// Lets the nodes of the job at a place tell one another what they derived. If memory runs out, the seats are as
     /// before.
     pub fn exchange(&mut self, at: usize) -> Result<(), AllocError>
         requires { at < length self.old }

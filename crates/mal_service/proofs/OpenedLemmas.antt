@@ -62,7 +62,7 @@ opened-here k ask past =
     subst (λ (ks : List Key). list_any (is_key k) ks ≡ true) (sym (keys-push past (Open k ask)))
     (list_any-append (is_key k) (keys_of past) (k ∷ []) ∙ or_right (list_any (is_key k) (keys_of past)) (list_any (is_key k) (k ∷ [])) (or_left (is_key k k) false (is_key-same k)))
 
--- the calls of a record's beginning, and those behind it
+-- the calls of a record's beginning, and those after it
 pub calls-parts : (w : ℕ) (past : List Event) (a b : Record) → AreAnsweredFrom w past (a ++ b) → AreAnsweredFrom w past a × AreAnsweredFrom w (past ++ events_of a) b
 calls-parts w past [] b calls = (tt, subst (λ (h : List Event). AreAnsweredFrom w h b) (sym (append-nil past)) calls)
 calls-parts w past (e ∷ a) b calls =

@@ -14,7 +14,7 @@ use Rattle.mal_store.specs.Stored.{lits_held, entry_clause, held_in, IsPlaced, A
 pub held-length : (long : List NumberedClause) (es : List Entry) → length (held_in long es) ≡ length es
 held-length long es = length-map es (entry_clause long)
 
--- clauses stay where more long ones come behind
+-- clauses stay where more long ones come after
 lits-more : (long more : List NumberedClause) (id : ℕ) (h : Held) → IsPlaced long id h → lits_held (long ++ more) h ≡ lits_held long h
 lits-more long more id Empty p = refl
 lits-more long more id (One lits) p = refl

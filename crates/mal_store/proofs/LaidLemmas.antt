@@ -10,7 +10,7 @@ use Rattle.mal_store.specs.declared.clause_arena.Body.TheVariants.{Three, Listed
 use Rattle.mal_store.specs.Arena.{is_left, lits_in, clause_in, clauses_in, IsBody, AreHeaders, IsFrom, end_of, AreLaid, IsFit, AreFit, len_of}
 use Rattle.mal_store.proofs.WonLemmas.{fit-at, fit-same}
 
--- a place where a clause's literals begin is not behind its end
+-- a place where a clause's literals begin is not after its end
 body-forward : (low : ℕ) (b : Body) → IsFrom low b → low ≤ end_of low b
 body-forward low (Three lits) h = omega arith
 body-forward low (Listed start len search_start) h = omega (arith, h)
@@ -128,7 +128,7 @@ close-more before old new first rs place end behind r s l e n i h f b w t u belo
 pub laid-at : (low high : ℕ) (rs : List Header) (place : ℕ) (r : Header) → place < length rs → r ≡ get_or rs place r → AreLaid low high (drop place rs) → IsBody high r.body
 laid-at low high rs place r l e h = (subst (λ (xs : List Header). AreHeaders high xs) (drop_more rs place r l ∙ ap (λ (x : Header). x ∷ drop (place + 1) rs) (sym e)) (laid-within low high (drop place rs) h)).0
 
--- what is behind the last header can go
+-- what is after the last header can go
 pub close-last : (before old new : List ℕ) (first rs : List Header) (place end : ℕ) → length rs ≤ place → end ≤ length new → ((k : ℕ) (d : ℕ) → k < end → get_or new k d ≡ get_or old k d) → IsClosing before old first rs place end → clauses_in new rs ≡ clauses_in before first
 close-last before old new first rs place end l w h c =
     let laid : AreLaid 0 end rs = subst (λ (xs : List Header). AreLaid 0 end xs) (take_all place rs l) c.done in

@@ -42,7 +42,7 @@ abbrev pub AreHeaders : ℕ → List Header → Type 0
 AreHeaders count [] = Unit {0}
 AreHeaders count (r ∷ rs) = IsBody count r.body × AreHeaders count rs
 
--- the literals of a clause stand from a place on, and what is behind them begins there
+-- the literals of a clause stand from a place on, and what is after them begins there
 abbrev pub IsFrom : ℕ → Body → Type 0
 IsFrom low (Three lits) = Unit {0}
 IsFrom low (Listed start len search_start) = low ≤ start
@@ -51,7 +51,7 @@ abbrev pub end_of : ℕ → Body → ℕ
 end_of low (Three lits) = low
 end_of low (Listed start len search_start) = start + len
 
--- the literals of headers stand from one place to another, those of each behind those of the ones before
+-- the literals of headers stand from one place to another, those of each after those of the ones before
 abbrev pub AreLaid : ℕ → ℕ → List Header → Type 0
 AreLaid low high [] = low ≤ high
 AreLaid low high (r ∷ rs) = IsFrom low r.body × AreLaid (end_of low r.body) high rs

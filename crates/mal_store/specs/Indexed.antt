@@ -29,7 +29,7 @@ pub record IsIndex (originals derived : List Entry) : Type 0 where
 abbrev pub entry_under : ℕ → List Entry → Option Entry
 entry_under id entries = find (λ e. e.id == id) entries
 
--- entries by rising number with one more, behind those of smaller numbers
+-- entries by rising number with one more, after those of smaller numbers
 abbrev pub with_entry : Entry → List Entry → List Entry
 with_entry e [] = e ∷ []
 with_entry e (d ∷ ds) = if nat_lt e.id d.id then e ∷ (d ∷ ds) else d ∷ with_entry e ds

@@ -85,8 +85,8 @@ abbrev pub with_short : NumberedClause → List ℕ → List ℕ
 with_short c short = if is_short c then with_number c.id short else short
 
 -- clauses have different numbers, which rise; those of the short ones stand in a list of their own; each long clause
--- stands where its entry says and has an entry; and the room in the list of literals is enough for all literals, so that
--- also those that do not stand in it leave room behind when they go
+-- stands where its entry says and has an entry; and the room in the list of literals is enough for all literals, so
+-- that also those that do not stand in it leave room after when they go
 pub record IsStore (long : List NumberedClause) (room : ℕ) (entries : List Entry) (short : List ℕ) : Type 0 where
   pub rising : NumbersRise 0 (held_in long entries)
   pub short_is : short ≡ short_ids (held_in long entries)
@@ -94,6 +94,6 @@ pub record IsStore (long : List NumberedClause) (room : ℕ) (entries : List Ent
   pub once : AreLong long (held_in long entries)
   pub enough : literal_count (held_in long entries) ≤ listed_count long + room
 
--- long clauses with one more behind them, if it is long
+-- long clauses with one more after them, if it is long
 abbrev pub with_long : NumberedClause → List NumberedClause → List NumberedClause
 with_long c long = if is_long c then long ++ c ∷ [] else long

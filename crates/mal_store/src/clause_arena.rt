@@ -93,7 +93,7 @@ impl ClauseArena {
         self.headers.len()
     }
 
-    /// Adds a clause behind the others, where there is room for it. Takes no memory.
+    /// Adds a clause after the others, where there is room for it. Takes no memory.
     pub fn add_reserved(&mut self, id: ClauseId, lits: &[Lit])
         requires clause_room { 1 ≤ self.old.clause_room }
         requires literal_room { length lits.now ≤ self.old.literal_room }
@@ -197,7 +197,7 @@ fn close_up(headers: &mut Vec<Header>, literals: &mut Vec<Lit>)
     literals.truncate(end);
 }
 
-/// Moves the literals of a clause down to a place. Tells where they stand then, and where the place behind them is.
+/// Moves the literals of a clause down to a place. Tells where they stand then, and where the place after them is.
 /// Takes no memory.
 fn move_down(literals: &mut Vec<Lit>, body: Body, place: usize) -> (Body, usize)
     requires from { IsFrom place body }
@@ -234,7 +234,7 @@ fn move_down(literals: &mut Vec<Lit>, body: Body, place: usize) -> (Body, usize)
     }
 }
 
-/// Puts the literals of a clause behind the others, unless they are three. Tells where they stand. Takes no memory.
+/// Puts the literals of a clause after the others, unless they are three. Tells where they stand. Takes no memory.
 fn body_of(literals: &mut Vec<Lit>, lits: &[Lit]) -> Body
     requires room { vec_len literals.old + length lits.now ≤ vec_capacity literals.old }
     requires few { vec_len literals.old + length lits.now ≤ 4294967295 }

@@ -10,7 +10,7 @@ use mal_base::ClauseId;
 use std::alloc::{AllocError, Global};
 use std::marker::Model;
 
-/// The numbers of derived clauses begin here, behind those of all original clauses.
+/// The numbers of derived clauses begin here, after those of all original clauses.
 const FIRST_DERIVED: u64 = 4_294_967_296;
 
 /// The entries of clauses by rising number. The original clauses, whose numbers are the smaller ones, have a list of

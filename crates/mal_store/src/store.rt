@@ -16,7 +16,7 @@ use std::marker::Model;
 
 /// Clauses by rising number, and those of two and more literals, the long ones, also in the order in which they came:
 /// only there their literals stand, and the index says where. A place in that list stays what it is while clauses are
-/// added, whatever their numbers are, since new ones stand behind; where clauses are forgotten, the others move up, and
+/// added, whatever their numbers are, since new ones stand after; where clauses are forgotten, the others move up, and
 /// the index is told. The numbers of the other clauses, the short ones, rise in a list of their own. Contracts see both
 /// lists of clauses, and how many clauses and literals there is room for.
 #[derive(Drop)]
@@ -66,7 +66,7 @@ impl Store {
         ensures more_literals { self.old.literal_room ≤ self.new.literal_room }
     {
         // Of no clause more than three literals stand elsewhere than in the list of literals; there is room in it for
-        // these too, so that what any clause leaves behind when it goes is room for any other.
+        // these too, so that what any clause leaves after when it goes is room for any other.
         let held = self.index.len();
         let twice = grown(held, held, usize::MAX)?;
         let beside = grown(twice, held, usize::MAX)?;
@@ -219,7 +219,7 @@ fn add_short(short: &mut Vec<ClauseId>, id: ClauseId, lits: &[Lit])
     }
 }
 
-/// Takes the literals of a clause in, behind those of the long ones if it is long. Tells where they are.
+/// Takes the literals of a clause in, after those of the long ones if it is long. Tells where they are.
 fn hold(long: &mut ClauseArena, id: ClauseId, lits: &[Lit]) -> Held
     requires clause_room { 1 ≤ long.old.clause_room }
     requires literal_room { length lits.now ≤ long.old.literal_room }

@@ -31,7 +31,7 @@ slices_at_front (Load r first ∷ es) = 0
 slices_at_front (Import told ∷ es) = 0
 slices_at_front (Run ∷ es) = suc (slices_at_front es)
 
--- what stands behind these
+-- what stands after these
 abbrev behind_slices : List JournalEntry → List JournalEntry
 behind_slices [] = []
 behind_slices (Load r first ∷ es) = Load r first ∷ es
@@ -72,7 +72,7 @@ one-known n m e f es fs h =
 parted : (c : Counted) (cs : List Counted) (es : List JournalEntry) → entries_of (c ∷ cs) ++ es ≡ slices_of c.slices ++ entry_of c.entry ∷ (entries_of cs ++ es)
 parted c cs es = append_assoc (counted_of c) (entries_of cs) es ∙ append_assoc (slices_of c.slices) (entry_of c.entry ∷ []) (entries_of cs ++ es)
 
--- counted entries and the slices behind them are known by what they stand for
+-- counted entries and the slices after them are known by what they stand for
 pub record AreKnown (cs ds : List Counted) (n m : ℕ) : Type 0 where
   pub counted : map counted_of cs ≡ map counted_of ds
   pub slices : n ≡ m
@@ -93,7 +93,7 @@ all-known (c ∷ cs) (d ∷ ds) n m h =
 pub counted-entries : (cs ds : List Counted) → map counted_of cs ≡ map counted_of ds → entries_of cs ≡ entries_of ds
 counted-entries cs ds h = sym (flat_map-map (λ (es : List JournalEntry). es) counted_of cs) ∙ (ap (λ (bs : List (List JournalEntry)). flat_map (λ (es : List JournalEntry). es) bs) h ∙ flat_map-map (λ (es : List JournalEntry). es) counted_of ds)
 
--- the slices at a place and the entry behind them may be replayed after those before
+-- the slices at a place and the entry after them may be replayed after those before
 pub may-at : (s : Sliced) (cs : List Counted) (es : List JournalEntry) (k : ℕ) (x d : Counted) → k < length cs → x ≡ get_or cs k d → MayAllReplay s (entries_of cs ++ es) → MayAllReplay (fold after_entry s (entries_of (take k cs))) (counted_of x)
 may-at s [] es k x d l e h = absurd (omega arith)
 may-at s (y ∷ ys) es zero x d l e h = rw e (may-front s (counted_of y) (entries_of ys ++ es) (subst (λ (xs : List JournalEntry). MayAllReplay s xs) (append_assoc (counted_of y) (entries_of ys) es) h))
@@ -205,7 +205,7 @@ counts-with cs c loads variables more most before e f = record {
 pub variables-behind : (most : ℕ) (es : List JournalEntry) (n : ℕ) → variables_after most (es ++ slices_of n) ≡ variables_after most es
 variables-behind most es n = variables-append most es (slices_of n) ∙ variables-slices (variables_after most es) n
 
--- the entries with those of a start behind them
+-- the entries with those of a start after them
 pub grown-entries : (loads : List (Posted × ℕ)) (tolds : List (List NumberedClause)) (before es fs gs after : List JournalEntry) → es ≡ before → fs ≡ es ++ load_entries loads → gs ≡ fs ++ import_entries tolds → after ≡ gs ++ Run ∷ [] → after ≡ before ++ start_entries loads tolds
 grown-entries loads tolds before es fs gs after p q r s =
     let third : gs ≡ (before ++ load_entries loads) ++ import_entries tolds = r ∙ ap (λ (xs : List JournalEntry). xs ++ import_entries tolds) (q ∙ ap (λ (xs : List JournalEntry). xs ++ load_entries loads) p) in

@@ -3,8 +3,9 @@ use Rattle.std.proofs.Common.{◌≡◌, ℕ, ◌+◌, ◌*◌, ◌/◌, ◌<◌
 use Rattle.std.specs.Int.{w32, w64}
 use Rattle.mal_base.specs.NumberedClause.{NumberedClause}
 use Rattle.spec_node.specs.State.{Node}
+use Rattle.mal_freeze.specs.Forms.{form_of}
 use Rattle.mal_freeze.specs.Imaged.{IsImage}
-use Rattle.mal_freeze.specs.Spelling.{spelled, counted, phase_bytes, entry_bytes, clause_bytes, list_bytes, image_bytes, magic, head_bytes, search_bytes, verdict_bytes}
+use Rattle.mal_freeze.specs.Spelling.{spelled, counted, phase_bytes, entry_bytes, clause_bytes, list_bytes, image_bytes, head_bytes, search_bytes, verdict_bytes}
 use Rattle.std.proofs.lemmas.Bool.{and_parts, eqb-true}
 
 spelled-4 : (n : ℕ) → length (spelled w32 n) ≡ 4
@@ -34,7 +35,7 @@ each-long (c ∷ cs) = omega (arith, each-long cs, clause-long c, length-append 
 counted-long : (n : ℕ) (bytes : List ℕ) → length bytes ≤ length (spelled w32 n ++ bytes)
 counted-long n bytes = omega (arith, length-append (spelled w32 n) bytes)
 
--- bytes behind others
+-- bytes after others
 behind : (a b c d e : List ℕ) → length e ≤ length (a ++ (b ++ (c ++ (d ++ e))))
 behind a b c d e = omega (arith, length-append a (b ++ (c ++ (d ++ e))), length-append b (c ++ (d ++ e)), length-append c (d ++ e), length-append d e)
 
@@ -42,7 +43,7 @@ between : (a b c d e : List ℕ) → length b + length c ≤ length (a ++ (b ++ 
 between a b c d e = omega (arith, length-append a (b ++ (c ++ (d ++ e))), length-append b (c ++ (d ++ e)), length-append c (d ++ e))
 
 lists-long : (n : Node) → length (list_bytes n) ≤ length (image_bytes n)
-lists-long n = behind (spelled w64 (magic n.profile)) (head_bytes n) (search_bytes n) (verdict_bytes n.verdict) (list_bytes n)
+lists-long n = behind (spelled w64 (form_of n.profile).magic) (head_bytes n) (search_bytes n) (verdict_bytes n.verdict) (list_bytes n)
 
 -- 5 bytes for each variable, 12 for each clause
 pub variables-long : (n : Node) → IsImage n → 5 * n.variables ≤ length (image_bytes n)

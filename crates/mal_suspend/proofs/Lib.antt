@@ -4,5 +4,4 @@ mod StartLemmas
 mod EntryLemmas
 mod RebuildLemmas
 mod FormLemmas
-mod PackLemmas
 mod LengthLemmas

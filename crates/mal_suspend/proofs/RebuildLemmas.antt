@@ -2,6 +2,7 @@
 use Rattle.std.proofs.Common.{◌≡◌, ℕ, zero, suc, ◌+◌, ◌<◌, List, [], ◌∷◌, ◌++◌, fold, refl, sym, ◌∙◌, ap, subst, arith}
 use Rattle.std.proofs.lemmas.Grind.{replicate_next}
 use Rattle.std.proofs.lemmas.List.Sums.{fold_push}
+use Rattle.mal_base.specs.declared.profile.Profile.{Profile}
 use Rattle.spec_node.specs.State.{Node}
 use Rattle.spec_search.specs.Slice.{Sliced, slice}
 use Rattle.spec_job.specs.Journal.{JournalEntry, Run, after_entry, replay}
@@ -24,7 +25,7 @@ slice-more n m k e =
     let last : after_entries n (slices_of (k + 1)) ≡ after_entry (after_entries n (slices_of k)) Run = ap (λ (es : List JournalEntry). after_entries n es) (replicate_next k Run) ∙ fold_push after_entry (alone n) (slices_of k) Run in
     ap (λ (x : Node). (slice x).node) e ∙ sym (ap (λ (s : Sliced). s.node) last)
 
--- an entry behind others may be replayed after them
+-- an entry after others may be replayed after them
 pub last-may : (n m : Node) (es : List JournalEntry) (e : JournalEntry) → m ≡ (after_entries n es).node → MayAllReplay (alone n) (es ++ e ∷ []) → MayReplay e m
 last-may n m es e q h = subst (λ (x : Node). MayReplay e x) (sym q) (may-behind (alone n) es (e ∷ []) h).0
 
@@ -33,7 +34,7 @@ pub nodes-alone : (s : Sliced) (es : List JournalEntry) → (after_entries s.nod
 nodes-alone s [] = refl
 nodes-alone s (e ∷ es) = ap (λ (t : Sliced). t.node) (after-more_alone s e es)
 
--- the slices behind the entries of a journal lead to its node
-pub replay-ends : (profile i : ℕ) (es : List JournalEntry) (n m : Node) (count : ℕ) → n ≡ (replay profile i es).node → m ≡ (after_entries n (slices_of count)).node → m ≡ (replay profile i (es ++ slices_of count)).node
+-- the slices after the entries of a journal lead to its node
+pub replay-ends : (profile : Profile) (i : ℕ) (es : List JournalEntry) (n m : Node) (count : ℕ) → n ≡ (replay profile i es).node → m ≡ (after_entries n (slices_of count)).node → m ≡ (replay profile i (es ++ slices_of count)).node
 replay-ends profile i es n m count p q =
     q ∙ (ap (λ (x : Node). (after_entries x (slices_of count)).node) p ∙ (nodes-alone (replay profile i es) (slices_of count) ∙ sym (ap (λ (s : Sliced). s.node) (replay-grows profile i es (slices_of count)))))

@@ -1,6 +1,7 @@
 -- Entries that may be replayed.
 use Rattle.std.proofs.Common.{◌≡◌, ℕ, List, [], ◌∷◌, ◌++◌, fold, refl, sym, ◌∙◌, ap, append_assoc, inr}
 use Rattle.std.proofs.lemmas.List.Sums.{fold-append}
+use Rattle.mal_base.specs.declared.profile.Profile.{Profile}
 use Rattle.spec_node.proofs.ImportLemmas.{import-holds}
 use Rattle.spec_search.specs.Slice.{Sliced}
 use Rattle.spec_search.proofs.ModelLemmas.{slice-leaves}
@@ -15,12 +16,12 @@ pub may-front : (s : Sliced) (es fs : List JournalEntry) → MayAllReplay s (es 
 may-front s [] fs h = tt
 may-front s (e ∷ es) fs h = (h.0, may-front (after_entry s e) es fs h.1)
 
--- what is behind a front may be replayed after that front
+-- what is after a front may be replayed after that front
 pub may-behind : (s : Sliced) (es fs : List JournalEntry) → MayAllReplay s (es ++ fs) → MayAllReplay (fold after_entry s es) fs
 may-behind s [] fs h = h
 may-behind s (e ∷ es) fs h = may-behind (after_entry s e) es fs h.1
 
--- entries that may be replayed after others may be replayed behind them
+-- entries that may be replayed after others may be replayed after them
 pub may-append : (s : Sliced) (es fs : List JournalEntry) → MayAllReplay s es → MayAllReplay (fold after_entry s es) fs → MayAllReplay s (es ++ fs)
 may-append s [] fs h k = k
 may-append s (e ∷ es) fs h k = (h.0, may-append (after_entry s e) es fs h.1 k)
@@ -40,8 +41,8 @@ pub after-more_alone : (s : Sliced) (e : JournalEntry) (es : List JournalEntry) 
 after-more_alone s e es = ap (λ (t : Sliced). fold after_entry t es) (after-alone s e)
 
 -- a journal with entries that may be replayed after it is one
-pub journal-grows : (profile i : ℕ) (es fs : List JournalEntry) → IsJournal profile i es → MayAllReplay (replay profile i es) fs → AreAtRest (es ++ fs) → IsJournal profile i (es ++ fs)
-journal-grows profile i es fs h k r = record { some_profile = h.some_profile; profile_bound = h.profile_bound; place = h.place; replays = may-append (replay profile i []) es fs h.replays k; rest = r }
+pub journal-grows : (profile : Profile) (i : ℕ) (es fs : List JournalEntry) → IsJournal profile i es → MayAllReplay (replay profile i es) fs → AreAtRest (es ++ fs) → IsJournal profile i (es ++ fs)
+journal-grows profile i es fs h k r = record { place = h.place; replays = may-append (replay profile i []) es fs h.replays k; rest = r }
 
 -- a journal is at rest after what a start adds
 pub start-rests : (es : List JournalEntry) (loads : List (Posted × ℕ)) (tolds : List (List NumberedClause)) → AreAtRest (es ++ start_entries loads tolds)
@@ -51,11 +52,11 @@ start-rests es loads tolds =
     inr (es ++ (load_entries loads ++ import_entries tolds), ap (λ (xs : List JournalEntry). es ++ xs) inner ∙ outer)
 
 -- the entries that a journal got may be replayed after it
-pub journal-behind : (profile i : ℕ) (es fs : List JournalEntry) → IsJournal profile i (es ++ fs) → MayAllReplay (replay profile i es) fs
+pub journal-behind : (profile : Profile) (i : ℕ) (es fs : List JournalEntry) → IsJournal profile i (es ++ fs) → MayAllReplay (replay profile i es) fs
 journal-behind profile i es fs h = may-behind (replay profile i []) es fs h.replays
 
 -- the replay of a journal that grew
-pub replay-grows : (profile i : ℕ) (es fs : List JournalEntry) → replay profile i (es ++ fs) ≡ fold after_entry (replay profile i es) fs
+pub replay-grows : (profile : Profile) (i : ℕ) (es fs : List JournalEntry) → replay profile i (es ++ fs) ≡ fold after_entry (replay profile i es) fs
 replay-grows profile i es fs = fold-append after_entry (replay profile i []) es fs
 
 variables-entry : (s : Sliced) (e : JournalEntry) → (after_entry s e).node.variables ≡ variables_with s.node.variables e
@@ -68,10 +69,10 @@ pub variables-entries : (s : Sliced) (es : List JournalEntry) → (fold after_en
 variables-entries s [] = refl
 variables-entries s (e ∷ es) = variables-entries (after_entry s e) es ∙ ap (λ (v : ℕ). variables_after v es) (variables-entry s e)
 
-pub variables-replay : (profile i : ℕ) (es : List JournalEntry) → (replay profile i es).node.variables ≡ variables_after 0 es
+pub variables-replay : (profile : Profile) (i : ℕ) (es : List JournalEntry) → (replay profile i es).node.variables ≡ variables_after 0 es
 variables-replay profile i es = variables-entries (replay profile i []) es
 
--- how many variables entries bring behind others
+-- how many variables entries bring after others
 pub variables-append : (most : ℕ) (es fs : List JournalEntry) → variables_after most (es ++ fs) ≡ variables_after (variables_after most es) fs
 variables-append most [] fs = refl
 variables-append most (e ∷ es) fs = variables-append (variables_with most e) es fs

@@ -24,7 +24,7 @@ is_gone (Live j) = false
 is_gone (Cold j) = false
 is_gone (Gone j) = true
 
--- how a start ended: it ran, or it wanted for memory with this error
+-- how a start ended: it ran, or it ran out of memory with this error
 abbrev pub outcome_by : Option AllocError → Outcome
 outcome_by None = Ran
 outcome_by (Some error) = Starved
@@ -37,13 +37,13 @@ finished worker outcome kept lines verdict model = record { worker = worker; out
 abbrev pub IsBeyond : ℕ → Journaled → Type 0
 IsBeyond most j = most < length (image_bytes (node_of j))
 
--- why the node of a journal is not kept in so many bytes: its image has more, or freezing it wanted for memory
+-- why the node of a journal is not kept in so many bytes: its image has more, or freezing it ran out of memory
 abbrev pub IsWarm : ℕ → Journaled → Warm → Type 0
 IsWarm most j Large = IsBeyond most j
 IsWarm most j (Wanting error) = Unit {0}
 
 -- what is kept of a node between two starts: its image where that has 2^14 bytes at the most, else the node, which is
--- kept besides where freezing it wanted for memory
+-- kept besides where freezing it ran out of memory
 abbrev pub IsCooled : Kept → Option Warm → Type 0
 IsCooled (Live j) None = ⊥
 IsCooled (Live j) (Some warm) = IsWarm 16384 j warm

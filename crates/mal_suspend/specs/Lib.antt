@@ -4,4 +4,3 @@ pub mod Counting
 pub mod Starting
 pub mod Kept
 pub mod Freezing
-pub mod Packed

@@ -1,4 +1,5 @@
 use Rattle.std.specs.Prelude.{◌≡◌, ℕ, ◌≤◌, ◌⊎◌, max, fold, List, [], ◌∷◌, ◌++◌}
+use Rattle.mal_base.specs.declared.profile.Profile.{Profile}
 use Rattle.spec_node.specs.State.{Node}
 use Rattle.spec_search.specs.Slice.{Sliced}
 use Rattle.spec_job.specs.Journal.{JournalEntry, Load, Import, Run, after_entry, replay}
@@ -24,7 +25,7 @@ pub record MayReplay (e : JournalEntry) (n : Node) : Type 0 where
   pub follows : MayFollow e n
   pub low : IsLowAt e n
 
--- each of these entries may be replayed behind those before it
+-- each of these entries may be replayed after those before it
 abbrev pub MayAllReplay : Sliced → List JournalEntry → Type 0
 MayAllReplay s [] = Unit {0}
 MayAllReplay s (e ∷ es) = MayReplay e s.node × MayAllReplay (after_entry s e) es
@@ -33,11 +34,9 @@ MayAllReplay s (e ∷ es) = MayReplay e s.node × MayAllReplay (after_entry s e)
 abbrev pub AreAtRest : List JournalEntry → Type 0
 AreAtRest entries = (entries ≡ []) ⊎ ((before : List JournalEntry) × (entries ≡ before ++ Run ∷ []))
 
--- what the entries of a node's journal keep: a node of a job may have this profile and this index, each entry may be
--- replayed behind those before it, and they are those between two starts
-pub record IsJournal (profile index : ℕ) (entries : List JournalEntry) : Type 0 where
-  pub some_profile : 1 ≤ profile
-  pub profile_bound : profile ≤ 2
+-- what the entries of a node's journal keep: a node of a job may have this index, each entry may be replayed after
+-- those before it, and they are those between two starts
+pub record IsJournal (profile : Profile) (index : ℕ) (entries : List JournalEntry) : Type 0 where
   pub place : index ≤ 63
   pub replays : MayAllReplay (replay profile index []) entries
   pub rest : AreAtRest entries

@@ -7,11 +7,10 @@ ghost use Rattle.mal_suspend.specs.Kept.{journal_of, is_gone, outcome_by};
 
 use crate::journal::Journal;
 use crate::kept::{Kept, cooled};
-use crate::packing::packed;
 use crate::suspended::{Solver, Suspended};
 use crate::warm::Warm;
 use mal_base::{Lines, Outcome, Values, Verdict};
-use mal_learn::Scratch;
+use mal_learn::{Scratch, packed};
 use std::alloc::AllocError;
 use std::marker::Model;
 
@@ -70,7 +69,7 @@ impl Done {
         }
     }
 
-    /// A start that wanted for memory, with the error that says so. Takes no memory.
+    /// A start that ran out of memory, with the error that says so. Takes no memory.
     pub fn starved(worker: u32, kept: Kept, cause: AllocError) -> Done
         ensures worker { result.worker ≡ worker }
         ensures outcome { result.outcome ≡ Starved }
@@ -96,7 +95,7 @@ impl Done {
         self.worker
     }
 
-    /// How the start ended: it ran, or it wanted for memory.
+    /// How the start ended: it ran, or it ran out of memory.
     pub fn outcome(&self) -> Outcome
         ensures value { result ≡ self.now.outcome }
         ensures tells { Tells self.now.outcome self.now }
@@ -122,7 +121,7 @@ impl Done {
         self.kept.journal()
     }
 
-    /// The lines of the slice; none where memory was wanting.
+    /// The lines of the slice; none where memory ran out.
     pub fn lines(&self) -> &Lines
         ensures value { result.now.lines ≡ self.now.lines }
         ensures tells { Tells self.now.outcome self.now }
@@ -130,7 +129,7 @@ impl Done {
         &self.lines
     }
 
-    /// The verdict of the slice. None where memory was wanting, and where the slice ended without one.
+    /// The verdict of the slice. None where memory ran out, and where the slice ended without one.
     pub fn verdict(&self) -> Option<Verdict>
         ensures value { result ≡ self.now.verdict }
         ensures tells { Tells self.now.outcome self.now }
@@ -163,7 +162,7 @@ impl Done {
         }
     }
 
-    /// The same where the start ran, else the error with which it wanted for memory.
+    /// The same where the start ran, else the error with which it ran out of memory.
     pub fn into_ran(self) -> Result<Done, AllocError>
         ensures same { IfOk result (λ d. d ≡ self) }
         ensures ran { IfOk result (λ d. d.outcome ≡ Ran) }

@@ -14,7 +14,7 @@ use std::marker::Model;
 use std::sync::Arc;
 
 /// What a node did, in order: the entries that are no slices, each with the number of slices before it, and the number
-/// of slices behind the last. Contracts see the list, in which each slice is an entry of its own; two lists are equal
+/// of slices after the last. Contracts see the list, in which each slice is an entry of its own; two lists are equal
 /// exactly where these are. So a slice more takes no memory, and a list costs what its loads and imports do. A copy
 /// shares them, and a list that has one slice more does; what was counted of them is kept beside them.
 #[derive(Drop)]
@@ -46,7 +46,7 @@ impl Entries {
         }
     }
 
-    /// Entries that may be shared, and so many slices behind them. Takes no memory.
+    /// Entries that may be shared, and so many slices after them. Takes no memory.
     pub(crate) fn of(alloc: Global, listed: Arc<Listed>, slices: u64) -> Entries
         ensures { result ≡ entries_of (arc_value listed) ++ slices_of slices }
     {
@@ -57,7 +57,7 @@ impl Entries {
         }
     }
 
-    /// The entries that are no slices, each with the number of slices before it, and the number of slices behind the
+    /// The entries that are no slices, each with the number of slices before it, and the number of slices after the
     /// last.
     pub fn parts(&self) -> (&[Counted], u64)
         ensures { entries_of result.0.now ++ slices_of result.1 ≡ self.now }
@@ -111,7 +111,7 @@ impl Entries {
         })
     }
 
-    /// The list with a slice behind it, which shares the entries that are no slices. Is refused where the count would
+    /// The list with a slice after it, which shares the entries that are no slices. Is refused where the count would
     /// pass its type's end.
     pub(crate) fn and_slice(&self) -> Result<Entries, AllocError>
         ensures { IfOk result (λ e. e ≡ self.now ++ Run ∷ []) }

@@ -43,8 +43,8 @@ impl Entry {
         }
     }
 
-    /// How many loads there are with this entry, where there were so many before it. A count that its type does not hold
-    /// is want of memory.
+    /// How many loads there are with this entry, where there were so many before it. A count that its type does not
+    /// hold is out of memory.
     pub fn loads_with(&self, loads: usize) -> Result<usize, AllocError>
         ensures { IfOk result (λ n. n ≡ (if is_load (entry_of self.now) then loads + 1 else loads)) }
     {
@@ -66,7 +66,7 @@ impl Entry {
 }
 
 /// An entry with the number of slices that were run in a row right before it. It stands for as many entries of a
-/// journal that each run a slice, and for itself behind them. Each count stands before the entry that ends the row, so
+/// journal that each run a slice, and for itself after them. Each count stands before the entry that ends the row, so
 /// no two counts stand side by side and no row can be told in two ways.
 #[derive(Drop)]
 pub struct Counted {

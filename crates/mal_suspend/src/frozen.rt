@@ -60,7 +60,7 @@ impl Frozen {
         self.journal.set_start(start);
     }
 
-    /// The node with its journal. After want of memory gives the bytes and the journal back, as they were.
+    /// The node with its journal. If memory runs out, gives the bytes and the journal back, as they were.
     pub fn thaw(self) -> Result<Suspended, (Frozen, AllocError)>
         ensures thawed { IfOk result (λ s. s ≡ self) }
         ensures refused { IfErr result (λ e. e.0 ≡ self) }

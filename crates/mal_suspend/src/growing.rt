@@ -30,14 +30,14 @@ impl Model for Growing {
 }
 
 impl Growing {
-    /// These entries, and so many slices behind them. Takes no memory.
+    /// These entries, and so many slices after them. Takes no memory.
     pub fn of(listed: Listed, slices: u64) -> Growing
         ensures { result ≡ entries_of listed ++ slices_of slices }
     {
         Growing { listed, slices }
     }
 
-    /// Puts an entry behind the others.
+    /// Puts an entry after the others.
     pub fn push(&mut self, entry: Entry) -> Result<(), AllocError>
         ensures { OnOk result (self.new ≡ self.old ++ entry_of entry ∷ []) }
     {
@@ -46,7 +46,7 @@ impl Growing {
         Ok(())
     }
 
-    /// Puts a slice behind the others. Takes no memory; is refused where the count would pass its type's end.
+    /// Puts a slice after the others. Takes no memory; is refused where the count would pass its type's end.
     pub fn push_slice(&mut self) -> Result<(), AllocError>
         ensures { OnOk result (self.new ≡ self.old ++ Run ∷ []) }
     {

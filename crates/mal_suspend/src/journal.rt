@@ -7,6 +7,7 @@ ghost use Rattle.mal_suspend.specs.{Replaying.{IsJournal, MayAllReplay, variable
 use crate::entries::Entries;
 use crate::entry::Entry;
 use crate::growing::Growing;
+use mal_base::Profile;
 use mal_buffer::Buffer;
 use mal_revision::Revision;
 use std::alloc::{AllocError, Global};
@@ -15,11 +16,11 @@ use std::sync::Arc;
 
 /// The journal of a node: the number of its job, the profile of the job's solvers, its index in the job's tree, the
 /// number of its last start, and what it did, in order. Contracts see the five; the type keeps that each entry may be
-/// replayed behind those before it.
+/// replayed after those before it.
 #[derive(Drop)]
 pub struct Journal {
     job: u64,
-    profile: u32,
+    profile: Profile,
     index: u32,
     start: u64,
     entries: Entries,
@@ -37,12 +38,10 @@ impl Model for Journal {
 }
 
 impl Journal {
-    /// The journal of the node of this index (0 to 63) of a job whose solvers have this profile (1 or 2), before its
-    /// first start. Takes no memory.
-    pub fn new(alloc: Global, job: u64, profile: u32, index: u32) -> Journal
-        requires index { index ≤ 63 }
-        requires some { 1 ≤ profile }
-        requires bound { profile ≤ 2 }
+    /// The journal of the node of this index (0 to 63) of a job whose solvers have this profile, before its first
+    /// start. Takes no memory.
+    pub fn new(alloc: Global, job: u64, profile: Profile, index: u32) -> Journal
+        requires { index ≤ 63 }
         ensures { result ≡ record { job = job; profile = profile; index = index; start = 0; entries = [] } }
     {
         Journal {
@@ -61,11 +60,9 @@ impl Journal {
         self.job
     }
 
-    /// The profile of the job's solvers: 1 or 2.
-    pub fn profile(&self) -> u32
-        ensures value { result ≡ self.now.profile }
-        ensures some { 1 ≤ result }
-        ensures bound { result ≤ 2 }
+    /// The profile of the job's solvers.
+    pub fn profile(&self) -> Profile
+        ensures { result ≡ self.now.profile }
     {
         self.profile
     }
@@ -181,7 +178,7 @@ impl Journal {
     }
 }
 
-/// The entries with those of a start behind them: loads of these revisions, then imports of what was broadcast, then a
+/// The entries with those of a start after them: loads of these revisions, then imports of what was broadcast, then a
 /// slice. Where it loads and imports nothing, the entries that are no slices are shared.
 fn and_start(
     before: &Entries,
@@ -205,7 +202,7 @@ fn and_start(
     }
 }
 
-/// Puts the entries of a start behind the others: loads of these revisions, then imports of what was broadcast, then a
+/// Puts the entries of a start after the others: loads of these revisions, then imports of what was broadcast, then a
 /// slice.
 fn push_start(
     entries: &mut Growing,
@@ -220,7 +217,7 @@ fn push_start(
     entries.push_slice()
 }
 
-/// Puts loads of these revisions behind the entries.
+/// Puts loads of these revisions after the entries.
 fn push_loads(entries: &mut Growing, loads: &[(Arc<Revision>, u32)]) -> Result<(), AllocError>
     ensures { OnOk result (entries.new ≡ entries.old ++ load_entries (shared_loads loads.now)) }
 {
@@ -231,7 +228,7 @@ fn push_loads(entries: &mut Growing, loads: &[(Arc<Revision>, u32)]) -> Result<(
     Ok(())
 }
 
-/// Puts imports of what was broadcast behind the entries.
+/// Puts imports of what was broadcast after the entries.
 fn push_imports(entries: &mut Growing, imports: &[Arc<Buffer>]) -> Result<(), AllocError>
     ensures { OnOk result (entries.new ≡ entries.old ++ import_entries (shared_imports imports.now)) }
 {

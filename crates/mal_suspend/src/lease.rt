@@ -16,7 +16,7 @@ use std::marker::Model;
 use std::sync::Arc;
 
 /// A node that is handed out to a worker for one start. Contracts see its journal, whether it is gone, what the start
-/// adds to the journal, and the worker; the type keeps that this may be replayed behind the journal.
+/// adds to the journal, and the worker; the type keeps that this may be replayed after the journal.
 #[derive(Drop)]
 pub struct Lease {
     kept: Kept,
@@ -43,7 +43,7 @@ impl Model for Lease {
 
 impl Lease {
     /// Hands a node out to a worker for the start of this number: it loads these revisions, each with the number of its
-    /// first clause, then imports what was broadcast, then runs a slice. After want of memory gives back what is kept
+    /// first clause, then imports what was broadcast, then runs a slice. If memory runs out, gives back what is kept
     /// of the node, as it was.
     pub fn new(
         kept: Kept,
@@ -104,7 +104,7 @@ impl Lease {
     }
 
     /// Works the lease off: thaws a node that is frozen and rebuilds one that is gone, loads, imports and runs a slice,
-    /// and freezes the node where that is cheap. It is never refused; where memory is wanting, what comes back has the
+    /// and freezes the node where that is cheap. It is never refused; where memory runs out, what comes back has the
     /// journal as before the start, and the error.
     pub fn work(self, scratch: &mut Scratch) -> Done
         ensures worker { result.worker ≡ self.worker }

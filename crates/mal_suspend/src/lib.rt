@@ -12,7 +12,6 @@ mod kept;
 mod lease;
 mod lending;
 mod listed;
-mod packing;
 mod rebuilding;
 mod start;
 mod suspended;

@@ -82,7 +82,7 @@ impl Listed {
         })
     }
 
-    /// Puts an entry behind the others, with the number of slices before it.
+    /// Puts an entry after the others, with the number of slices before it.
     pub fn push(&mut self, slices: u64, entry: Entry) -> Result<(), AllocError>
         ensures { OnOk result
             (entries_of self.new ≡ entries_of self.old ++ (slices_of slices ++ entry_of entry ∷ [])) }

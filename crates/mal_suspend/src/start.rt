@@ -47,7 +47,7 @@ impl Model for Start {
 }
 
 impl Start {
-    /// The start of this number behind a journal that loads these revisions, then imports what was broadcast, then runs
+    /// The start of this number after a journal that loads these revisions, then imports what was broadcast, then runs
     /// a slice.
     pub fn new(
         journal: &Journal,
@@ -112,7 +112,7 @@ impl Start {
         }
     }
 
-    /// Loads and imports, and makes room for a slice. Where memory is wanting the state of the node stays as it was.
+    /// Loads and imports, and makes room for a slice. Where memory runs out the state of the node stays as it was.
     fn make_ready(&self, node: &mut Solver, scratch: &mut Scratch) -> Result<(), AllocError>
         requires { MayAllReplay (alone node.old.state) self.now.adds }
         ensures ready { OnOk result (slice node.new.state ≡ after_entries node.old.state self.now.adds) }

@@ -8,6 +8,7 @@ ghost use Rattle.mal_suspend.specs.{Freezing.{IsFrozen}, Kept.{IsBeyond, IsWarm}
 use crate::frozen::Frozen;
 use crate::journal::Journal;
 use crate::warm::Warm;
+use mal_base::Profile;
 use mal_cdcl::Node;
 use mal_freeze::freeze;
 use mal_watch::Watcher;
@@ -36,12 +37,10 @@ impl Model for Suspended {
 }
 
 impl Suspended {
-    /// The node of this index (0 to 63) of a job whose solvers have this profile (1 or 2), before its first start.
-    /// Takes no memory.
-    pub fn fresh(alloc: Global, job: u64, profile: u32, index: u32) -> Suspended
-        requires index { index ≤ 63 }
-        requires some { 1 ≤ profile }
-        requires bound { profile ≤ 2 }
+    /// The node of this index (0 to 63) of a job whose solvers have this profile, before its first start. Takes no
+    /// memory.
+    pub fn fresh(alloc: Global, job: u64, profile: Profile, index: u32) -> Suspended
+        requires { index ≤ 63 }
         ensures { result ≡ record { job = job; profile = profile; index = index; start = 0; entries = [] } }
     {
         Suspended {
@@ -87,7 +86,7 @@ impl Suspended {
         self.journal.set_start(start);
     }
 
-    /// The bytes of the node, with its journal. After want of memory gives the node and its journal back, as they were.
+    /// The bytes of the node, with its journal. If memory runs out, gives the node and its journal back, as they were.
     pub fn freeze(self) -> Result<Frozen, (Suspended, AllocError)>
         ensures frozen { IfOk result (λ f. f ≡ self) }
         ensures refused { IfErr result (λ e. e.0 ≡ self) }

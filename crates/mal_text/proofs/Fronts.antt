@@ -64,7 +64,7 @@ below_zero : (digits : List ℕ) (n max : ℕ) → is_numeral digits ≡ true �
 below_zero digits zero max h e some = absurd (omega arith)
 below_zero digits (suc m) max h e some = ap negated (magnitude_said digits (suc m) max h e) ∙ negative_said (nat_le (suc m) max) m
 
--- a line of digits, maybe behind a minus sign, begins with their number
+-- a line of digits, maybe after a minus sign, begins with their number
 pub begins_digits : (line rest : List ℕ) (n : ℕ) (z : ℤ) → BeginsWithDigits line n rest → z ≡ pos n → BeginsWith line z (words_of rest)
 begins_digits line rest n z (digits, numeral, value, cut) e = (
   digits,

@@ -4,7 +4,7 @@ use Rattle.std.proofs.lemmas.List.Folds.{flat_map-map}
 use Rattle.spec_text.specs.Lines.{line_of}
 use Rattle.spec_text.proofs.Again.{joined_word_by_word}
 
--- a line is its first word, the others behind a space each, and a line end
+-- a line is its first word, the others after a space each, and a line end
 pub line_by_word : (first : List ℕ) (others : List (List ℕ)) → (first ++ flat_map (λ w. 32 ∷ w) others) ++ 10 ∷ [] ≡ line_of (first ∷ others)
 line_by_word first others = ap (λ (bytes : List ℕ). bytes ++ 10 ∷ []) (sym (joined_word_by_word first others))
 

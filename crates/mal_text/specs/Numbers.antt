@@ -22,15 +22,15 @@ magnitude_word_of (Err fault.TooLarge) = TooLarge
 abbrev pub said_within : ℕ → ℤ → NumberWord
 said_within max z = if nat_le (nat_abs z) max then Number z else TooLarge
 
--- a line begins with a word that says this number, and these are the words behind it
+-- a line begins with a word that says this number, and these are the words after it
 abbrev pub BeginsWith : List ℕ → ℤ → List (List ℕ) → Type 0
 BeginsWith line z words = (word : List ℕ) × (words_of line ≡ word ∷ words) × ((max : ℕ) → number_in word max ≡ said_within max z)
 
--- a line is these bytes, a blank and the line behind it, or these bytes alone
+-- a line is these bytes, a blank and the line after it, or these bytes alone
 abbrev pub Cuts : List ℕ → List ℕ → List ℕ → Type 0
 Cuts line front rest = ((line ≡ front) × (rest ≡ [])) ⊎ ((b : ℕ) × (is_blank b ≡ true) × (line ≡ front ++ b ∷ rest))
 
--- a line begins with digits of this value, up to a blank or to its end, and this is the line behind them
+-- a line begins with digits of this value, up to a blank or to its end, and this is the line after them
 abbrev pub BeginsWithDigits : List ℕ → ℕ → List ℕ → Type 0
 BeginsWithDigits line n rest = (digits : List ℕ) × (is_numeral digits ≡ true) × (value_of digits ≡ n) × Cuts line digits rest
 

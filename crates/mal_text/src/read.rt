@@ -4,7 +4,7 @@ ghost use Rattle.spec_text.specs.Inputs.{lines_of, words_of, is_blank, is_word_l
 
 use std::alloc::{AllocError, Global};
 
-/// The first line of a text, without its line end, and the text behind it. An empty text has no line.
+/// The first line of a text, without its line end, and the text after it. An empty text has no line.
 pub fn first_line(text: &[u8]) -> Option<(&[u8], &[u8])>
     ensures lines { MatchOption result (lines_of text.now ≡ [])
         (λ cut. lines_of text.now ≡ cut.0.now ∷ lines_of cut.1.now) }
@@ -30,7 +30,7 @@ pub fn words(alloc: Global, line: &[u8]) -> Result<Vec<&[u8]>, AllocError>
         .collect(alloc)
 }
 
-/// The first word of a line, and the line behind it. A line of blanks alone has no word. A line may be the whole input,
+/// The first word of a line, and the line after it. A line of blanks alone has no word. A line may be the whole input,
 /// and a list of its words would take many times its size; so it is cut word by word.
 pub fn first_word(line: &[u8]) -> Option<(&[u8], &[u8])>
     ensures words { MatchOption result (words_of line.now ≡ [])
@@ -72,7 +72,7 @@ fn without_blanks(line: &[u8]) -> &[u8]
     &[]
 }
 
-/// The word that a line begins with, and the line behind it.
+/// The word that a line begins with, and the line after it.
 fn word_in_front(line: &[u8]) -> (&[u8], &[u8])
     requires some { 0 < length line.now }
     requires first { is_blank (get_or line.now 0 0) ≡ false }

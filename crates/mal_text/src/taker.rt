@@ -51,7 +51,7 @@ pub fn put_line<T: Taker>(out: &mut T, first: &[u8], others: &[&[u8]]) -> Result
     Ok(())
 }
 
-/// Puts words, each behind a space.
+/// Puts words, each after a space.
 pub fn put_words<T: Taker>(out: &mut T, words: &[&[u8]]) -> Result<(), T::Fault>
     ensures { OnOk result (T.took out.old out.new (flat_map (λ w. 32 ∷ w) (map (λ w. w.now) words.now))) }
 {

@@ -1,4 +1,4 @@
-//! Writing lines of words behind what a text has already.
+//! Writing lines of words after what a text has already.
 ghost use Rattle.std.specs.Prelude.{◌≡◌, [], ◌∷◌, ◌++◌, map, take, vec_len, OnOk, OnErr};
 ghost use Rattle.std.specs.Fmt.{signed_decimal};
 ghost use Rattle.spec_text.specs.{Lines.{line_of}, Numbers.{decimal_word}};

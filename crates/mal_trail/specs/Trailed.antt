@@ -1,5 +1,6 @@
 use Rattle.std.specs.Prelude.{◌≡◌, ℕ, ◌+◌, ◌-◌, ◌/◌, ◌≤◌, ◌<◌, ◌⊎◌, true, eqb, List, [], ◌∷◌, length, slice_index_or, slice_set}
 use Rattle.std.specs.List.{list_any, IsDistinct}
+use Rattle.mal_base.specs.Limits.{greatest_variable}
 use Rattle.mal_base.specs.Literals.{negated}
 use Rattle.mal_base.specs.declared.trail_entry.TrailEntry.{TrailEntry}
 use Rattle.spec_node.specs.Value.{vars_of}
@@ -23,7 +24,7 @@ LevelsRise level (e ∷ es) = (level ≤ e.level) × (e.level ≤ level + 1) × 
 
 -- no variable stands twice, each is one that there is room for, and levels rise
 pub record Fits (most : ℕ) (entries : List TrailEntry) : Type 0 where
-  pub small : most ≤ 65536
+  pub small : most ≤ greatest_variable
   pub distinct : IsDistinct eqb (vars_of entries)
   pub within : (v : ℕ) → list_any (eqb v) (vars_of entries) ≡ true → (1 ≤ v) × (v ≤ most)
   pub levels : LevelsRise 0 entries

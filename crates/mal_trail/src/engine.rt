@@ -1,7 +1,7 @@
 //! Engines of unit propagation.
 
 ghost use Rattle.std.specs.Prelude.{◌≡◌, ℕ, ◌+◌, ◌≤◌, true, List, [], ◌∷◌, ◌++◌, length, min, None, OnOk};
-ghost use Rattle.mal_base.specs.{Clauses.{rises}, NumberedClause.{lits_under}, declared.trail_entry.TrailEntry.{TrailEntry}};
+ghost use Rattle.mal_base.specs.{Limits.{greatest_variable}, Clauses.{rises}, NumberedClause.{lits_under}, declared.trail_entry.TrailEntry.{TrailEntry}};
 ghost use Rattle.spec_node.specs.{Adding.{with_clause, forgetting}, Batch.{after_batch}, Cut.{kept}};
 ghost use Rattle.mal_trail.specs.Rooms.{Room, HasRoom, IsRoomFor, IsLeft, are_within};
 
@@ -24,9 +24,10 @@ pub trait Engine: ClauseView + Drop {
         ensures clauses { Self.clauses result ≡ [] }
         ensures fits { (entries : List TrailEntry) (processed : ℕ) → fits result entries processed };
 
-    /// Makes room for the variables up to this one, at most 65,536, and for so many clauses and literals more.
+    /// Makes room for the variables up to this one, which a literal can be of, and for so many clauses and literals
+    /// more.
     fn reserve(&mut self, variables: u32, clauses: usize, literals: usize) -> Result<(), AllocError>
-        requires { variables ≤ 65536 }
+        requires { variables ≤ greatest_variable }
         ensures room { OnOk result (HasRoom variables clauses literals (room self.new)) }
         ensures more { IsLeft 0 0 (room self.old) (room self.new) }
         ensures clauses { Self.clauses self.new ≡ Self.clauses self.old }

@@ -1,7 +1,7 @@
 //! The trail: the literals that are true, in the order in which they became so.
 
 ghost use Rattle.std.specs.Prelude.{vec_len, vec_capacity, All, ◌≡◌, ℕ, ◌+◌, ◌-◌, ◌≤◌, ◌<◌, false, [], ◌∷◌, ◌++◌, length, take, drop, map, min, nat_lt, true, Some, None, OnOk};
-ghost use Rattle.mal_base.specs.{Literals.{var_of, literal, negated, IsLiteral}, Trails.{value_on}};
+ghost use Rattle.mal_base.specs.{Limits.{greatest_variable}, Literals.{var_of, literal, negated, IsLiteral}, Trails.{value_on}};
 ghost use Rattle.spec_node.specs.{Load.{counted}, Cut.{kept, removed}, Value.{is_true, is_false, has_value, level_of}};
 ghost use Rattle.mal_trail.specs.Trailed.{false_place, cleared};
 
@@ -45,9 +45,9 @@ impl Trail {
         }
     }
 
-    /// Makes room for the variables up to this one, at most 65,536.
+    /// Makes room for the variables up to this one, which a literal can be of.
     pub fn reserve(&mut self, variables: u32) -> Result<(), AllocError>
-        requires { variables ≤ 65536 }
+        requires { variables ≤ greatest_variable }
         ensures entries { self.new.entries ≡ self.old.entries }
         ensures processed { self.new.processed ≡ self.old.processed }
         ensures room { OnOk result (variables ≤ self.new.room) }
@@ -70,10 +70,10 @@ impl Trail {
         self.entries.as_slice()
     }
 
-    /// The number of entries, at most 65,536.
+    /// The number of entries, at most that of the variables that literals can be of.
     pub fn len(&self) -> usize
         ensures value { result ≡ length self.now.entries }
-        ensures bound { result ≤ 65536 }
+        ensures bound { result ≤ greatest_variable }
     {
         self.entries.len()
     }
@@ -131,10 +131,10 @@ impl Trail {
         self.is_true(var.literal(true)) || self.is_true(var.literal(false))
     }
 
-    /// Writes into an empty list with room for them whether the variables, so many, are true, in rising order. At most
-    /// 65,536. Takes no memory.
+    /// Writes into an empty list with room for them whether the variables, so many, are true, in rising order. Takes no
+    /// memory.
     pub fn truth_values(&self, variables: u32, values: &mut Vec<bool>)
-        requires bound { variables ≤ 65536 }
+        requires bound { variables ≤ greatest_variable }
         requires empty { values.old.items ≡ [] }
         requires room { variables ≤ vec_capacity values.old }
         ensures items { values.new.items ≡ map (λ v. is_true self.now.entries (literal v true)) (counted 1 variables) }
@@ -149,7 +149,7 @@ impl Trail {
     pub fn level(&self) -> u32
         ensures value { result ≡ level_of self.now.entries }
         ensures bound { result ≤ length self.now.entries }
-        ensures limit { result ≤ 65536 }
+        ensures limit { result ≤ greatest_variable }
     {
         match self.entries.last() {
             None => 0,
@@ -175,7 +175,7 @@ impl Trail {
     pub fn processed(&self) -> u32
         ensures value { result ≡ self.now.processed }
         ensures bound { result ≤ length self.now.entries + 1 }
-        ensures limit { result ≤ 65537 }
+        ensures limit { result ≤ greatest_variable + 1 }
     {
         self.processed
     }
@@ -264,7 +264,7 @@ impl TrailView for Trail {
     }
 }
 
-/// The entries behind the first, so many.
+/// The entries after the first, so many.
 fn behind(entries: &[TrailEntry], count: usize) -> &[TrailEntry]
     requires { count ≤ length entries.now }
     ensures { result.now ≡ drop count entries.now }

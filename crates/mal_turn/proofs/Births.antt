@@ -7,7 +7,7 @@ use Rattle.mal_turn.proofs.Paths.{part_none, same_equal}
 use Rattle.mal_turn.proofs.Records.{at_end}
 
 module _ {E : Type 0} where
-  -- none behind an entry by the token's own first number
+  -- none after an entry by the token's own first number
   pub unborn_longer : (n : Numbers) (log : Log E) (x : E) → IsUnborn n log → IsUnborn n (log ++ (n.first, x) ∷ [])
   unborn_longer n log x none i rest k e late p is = ⊎_elim (λ (q : At log k e). none i rest k e late q is)
       (λ (t : (k ≡ length log) × ((n.first, x) ≡ e)).

@@ -151,7 +151,7 @@ module _ {E : Type 0} where
     pub live : (v.stage ≡ Idle) ⊎ Has v.of v.of.first
 
   -- The rule on numbers: no number is in two views; a view that is not spent has its own first number; a number that is
-  -- a view's first with k put behind it has k below that view's count; of each number in a view, but for the empty one,
+  -- a view's first with k put after it has k below that view's count; of each number in a view, but for the empty one,
   -- some view has the number without its last element, and has the number itself or awaits it; and the number of each
   -- entry is in some view.
   pub record NumberRule (log : Log E) (token : List ℕ → ℕ) (ns : List Numbers) : Type 0 where

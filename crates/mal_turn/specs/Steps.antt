@@ -43,7 +43,7 @@ module _ {T E : Type 0} where
   abbrev pub looks : (T → Log E → Type 0) → Step (Option T) → Tabled T E → ℕ → Tabled T E → Type 0
   looks stands st m r m' = looks_at stands m.0.stage m r m'
 
-  -- enter history: the value's last entry, by the token's first number, stands behind all that was seen
+  -- enter history: the value's last entry, by the token's first number, stands after all that was seen
   abbrev pub enters : (T → E) → Step (Option T) → Tabled T E → ℕ → Tabled T E → Type 0
   enters last st m r m' = (x : T) → m.1 ≡ (0, Some x) ∷ [] → m' ≡ (seeing (Entered (ticket_of m.0.stage)) (m.0.seen ++ (m.0.of.first, last x) ∷ []) m.0, m.1)
 

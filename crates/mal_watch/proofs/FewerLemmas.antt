@@ -85,7 +85,7 @@ fewer-length test (c ∷ cs) = by_test (fewer-length test cs) (test c)
     by_test l true = omega (arith, l)
     by_test l false = omega (arith, l)
 
--- the first of clauses has another number than each behind it
+-- the first of clauses has another number than each after it
 single-apart : (c : NumberedClause) (cs : List NumberedClause) (d : NumberedClause) → AreSingle (c ∷ cs) → Among d cs → c.id ≢ d.id
 single-apart c cs d h m e =
     let p = among-place d cs no_clause m in

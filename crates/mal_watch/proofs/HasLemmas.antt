@@ -35,7 +35,7 @@ has-cases k x xs h = by_side (or-cases (eqb k x) (list_any (eqb k) xs) h)
     by_side (inl e) = inl (eqb-true k x e)
     by_side (inr r) = inr r
 
--- a number of a list that begins with another stands behind it
+-- a number of a list that begins with another stands after it
 pub has-other : (k x : ℕ) (xs : List ℕ) → (k ≡ x → ⊥) → Has (x ∷ xs) k → Has xs k
 has-other k x xs n h = by_side (has-cases k x xs h)
   where

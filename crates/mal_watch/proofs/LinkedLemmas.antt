@@ -239,7 +239,7 @@ cut heads links now nexts keys lists w key xs ys c e n others here rest =
       rest = rest;
     }
 
--- past the watch behind another
+-- past the watch after another
 list-past : (links : List (Option ℕ)) (l w : ℕ) (from : Option ℕ) (xs ys : List ℕ) → AreOnce ((xs ++ l ∷ []) ++ w ∷ ys) → IsList links from ((xs ++ l ∷ []) ++ w ∷ ys) → IsList (set links l (link_at links w)) from ((xs ++ l ∷ []) ++ ys) × IsList (set links l (link_at links w)) (link_at links w) ys
 list-past links l w from [] ys o h =
     let next = link_at links w in
@@ -255,7 +255,7 @@ list-past links l w from (x ∷ xs) ys o h =
     let r = list-past links l w (link_at links x) xs ys o.1 h.2 in
     ((h.0, inside, rw same r.0), r.1)
 
--- the heads and the links where a list leads past the watch behind the last that stayed, or past the first
+-- the heads and the links where a list leads past the watch after the last that stayed, or past the first
 abbrev pub heads_past : List (Option ℕ) → ℕ → Option ℕ → Option ℕ → List (Option ℕ)
 heads_past heads key None next = set heads key next
 heads_past heads key (Some l) next = heads
@@ -375,7 +375,7 @@ next-from links from watch e h = by_list (list_from links (length links) from) r
           rest = rw is linked;
         }
 
--- the walk goes on behind the first watch that is out
+-- the walk goes on after the first watch that is out
 pub walk-on : (links : List (Option ℕ)) (head from last next : Option ℕ) (watch : ℕ) → from ≡ Some watch → next ≡ link_at links watch → IsWalk links head from last → IsWalk links head next from
 walk-on links head from last next watch e n w =
     let f = next-from links from watch e w.out in

@@ -130,7 +130,7 @@ link-more heads watches place list m l e k t c =
     let count : place ≡ length (links_of (take place watches)) = omega (arith, l, links-length (take place watches), length-take-le place watches (omega arith)) in
     added heads (links_of (take place watches)) _ (keys_of (take place watches)) _ m.key list place m.next c e count k t (ap links_of now ∙ links-push (take place watches) m) (ap keys_of now ∙ keys-push (take place watches) m)
 
--- how far the two of each clause were gone over: these are kept in front, and those behind are still to come
+-- how far the two of each clause were gone over: these are kept in front, and those after are still to come
 pub record IsKeeping {X : Type 0} (ids : List ℕ) (cs : List NumberedClause) (first xs : List X) (kept place : ℕ) : Type 0 where
   pub pairs : take kept xs ++ pairs_left ids (drop place cs) (drop (place + place) xs) ≡ pairs_left ids cs first
   pub behind : kept ≤ place + place

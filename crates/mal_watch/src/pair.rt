@@ -86,6 +86,8 @@ pub fn pick(trail: &Trail, count: usize, lits: &[Lit]) -> (Lit, Lit)
 {
     let first = lits[0];
     let second = lits[1];
+    // A clause that is learned or loaded under a long trail may be false but for one literal. Those that became false last
+    // are watched: a backtrack that frees any literal of the clause frees them first.
     let mut pair = Pair::of(
         first,
         open_until(trail, count, first),

@@ -123,7 +123,7 @@ fn visit(
 }
 
 /// Visits all watches that are out, which are of the literal that became false by the last of the first entries, so
-/// many. What is found of them is put behind the rest.
+/// many. What is found of them is put after the rest.
 pub fn walk(
     lists: &mut WatchLists,
     found: &mut Vec<Found>,

@@ -81,6 +81,7 @@ impl WatchLists {
         ensures keys { self.new.keys ≡ self.old.keys }
         ensures out { self.new.out ≡ self.old.out }
     {
+        // A link is four bytes, and its greatest number is no watch.
         grown(self.watches.len(), watches, MOST)?;
         self.watches.reserve(watches)?;
         if self.heads.len() < lists {
@@ -194,6 +195,7 @@ impl WatchLists {
         ensures won { length self.old.keys + self.old.room ≤ length self.new.keys + self.new.room }
     {
         keep_pairs(&mut self.watches, store, ids);
+        // Watches move up where others go, so all lists are linked anew: that is one pass, and reductions are rare.
         self.heads.fill(Link::none());
         self.taken = Link::none();
         link_all(&mut self.heads, &mut self.watches);

@@ -37,9 +37,11 @@ impl Watcher {
         ensures fits { Fits self.new trail.now.entries trail.now.processed }
     {
         self.store.add_reserved(id, lits);
+        // A clause of one literal or none has nothing to watch: the batch of the empty front goes over all of these.
         if lits.len() < 2 {
             return;
         }
+        // Under the entries that are handled already, the two must be such as a clause would watch that was there before.
         let handled = trail.processed().saturating_sub(1) as usize;
         let (first, second) = pair::pick(trail, handled, lits);
         self.lists.add(first);
@@ -63,6 +65,7 @@ impl Watcher {
         self.found.clear();
         let last = trail.entries()[count - 1];
         let lit = last.lit.negate();
+        // What was false before is in the batch of an earlier entry.
         if trail.is_false_before(count - 1, lit) {
             return;
         }
@@ -76,6 +79,7 @@ impl Watcher {
             count,
             lit,
         );
+        // Lists are in no order, and a batch is by rising number: so every engine finds the same one.
         found::sort(&mut self.found);
     }
 
@@ -132,7 +136,9 @@ impl Engine for Watcher {
         let watches = grown(clauses, clauses, usize::MAX)?;
         let total = grown(clauses, self.store.count_long(), usize::MAX)?;
         self.store.reserve(clauses, literals)?;
+        // A list for each code of a literal, of which the first is 2.
         self.lists.reserve(2 * variables as usize + 2, watches)?;
+        // One batch may find every long clause, and takes no memory.
         self.found.clear();
         self.found.reserve(total)
     }

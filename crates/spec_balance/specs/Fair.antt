@@ -1,9 +1,10 @@
 use Rattle.std.specs.Prelude.{◌≡◌, ℕ, ◌-◌, ◌*◌, ◌<◌, ◌≤◌, ◌⊎◌, min, List, length, map, sum, sum_by, get_or}
+use Rattle.mal_base.specs.declared.profile.Profile.TheVariants.{Plain}
 use Rattle.mal_base.specs.Asks.{Terms}
 
 -- an ask that asks for nothing
 abbrev pub no_ask : Terms
-no_ask = record { priority = 0; demand = 0; slices = 0; profile = 0 }
+no_ask = record { priority = 0; demand = 0; slices = 0; profile = Plain }
 
 -- the priority of the job at a place
 abbrev pub priority_at : List Terms → ℕ → ℕ

@@ -223,7 +223,7 @@ fold-apart names (e ∷ es) apart = fold-apart (names_step names e) es (step-apa
 pub names-apart : (h : List Event) → AreApart (names_of h)
 names-apart h = fold-apart [] h tt
 
--- a new key among others, behind names among them: there is room for it
+-- a new key among others, after names among them: there is room for it
 pub record HasRoom (k : Key) (names ks : List Key) : Type 0 where
   pub jobs : jobs_of k.tenant names < jobs_of k.tenant ks
   pub tenants : jobs_of k.tenant names ≡ 0 → tenant_count names < tenant_count ks

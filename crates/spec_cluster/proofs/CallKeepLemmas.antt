@@ -30,7 +30,7 @@ use Rattle.spec_cluster.proofs.GrowthLemmas.{growth-keeps}
 use Rattle.spec_cluster.proofs.HallLemmas.{home-found}
 use Rattle.spec_cluster.proofs.NameLemmas.{had-none}
 
--- events that a call enters behind a history: no lease is out by them, no job moves, and only fresh jobs are opened
+-- events that a call enters after a history: no lease is out by them, no job moves, and only fresh jobs are opened
 record IsPosted (c : Cluster) (n : ℕ) (es : List Event) : Type 0 where
   calm : leases (hall_at c.halls n ++ es) ≡ []
   still : list_any moves es ≡ false

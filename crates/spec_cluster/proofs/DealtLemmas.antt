@@ -10,7 +10,8 @@ use Rattle.spec_hall.specs.Legal.{jobs_of}
 use Rattle.spec_hall.specs.Own.{is_key, is_text}
 use Rattle.spec_hall.proofs.KeyLemmas.{AreApart, apart-push, is_text-Decides}
 use Rattle.spec_script.specs.Formed.{MayAllFollow, MayFollow, tenants_of, with_name}
-use Rattle.spec_script.specs.Limits.{Limits, served}
+use Rattle.mal_base.specs.declared.limits.Limits.{Limits}
+use Rattle.mal_base.specs.Limits.{limits}
 use Rattle.spec_script.specs.Reading.{is_job, is_of}
 use Rattle.spec_script.specs.Script.{ScriptedJob}
 use Rattle.spec_cluster.specs.Laws.{DealtIsScript}
@@ -144,4 +145,4 @@ dealt-follow limits halls n i some all (j ∷ js) are follow = by_test (i % hall
     by_test false here there = there
 
 pub dealt-is_script : DealtIsScript
-dealt-is_script halls n s formed = dealt-follow served halls n 0 [] [] s.jobs none-some formed
+dealt-is_script halls n s formed = dealt-follow limits halls n 0 [] [] s.jobs none-some formed

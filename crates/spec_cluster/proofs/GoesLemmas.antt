@@ -3,6 +3,7 @@ use Rattle.std.proofs.Common.{◌≡◌, ◌≢◌, ℕ, ◌+◌, ◌-◌, ◌%�
 use Rattle.std.proofs.lemmas.Bool.{and_from, cases_lt, false_from_ne_true, lt-ltb, ltb-true}
 use Rattle.std.proofs.Math.Nat.{mod-eq_of_lt, mod-lt, mod_self}
 use Rattle.std.proofs.lemmas.Bool.Decides.{Decides-eqb}
+use Rattle.mal_base.specs.Limits.{limits}
 use Rattle.spec_job.specs.KeyedJob.{Key}
 use Rattle.spec_job.specs.SoloMachine.{Own}
 use Rattle.spec_hall.specs.Events.{Event}
@@ -36,12 +37,12 @@ not-below n m low = false_from_ne_true (nat_lt n m) (λ q. over n m low (ltb-tru
     over : (a b : ℕ) → b ≤ a → a < b → ⊥
     over a b p q = omega arith
 
-tenant-stays : (k : Key) (h : List Event) → is_named k h ≡ false → 64 ≤ jobs_of k.tenant (names_of h) → may_come k h ≡ false
+tenant-stays : (k : Key) (h : List Event) → is_named k h ≡ false → limits.jobs_of_tenant ≤ jobs_of k.tenant (names_of h) → may_come k h ≡ false
 tenant-stays k h fresh full =
     ap (λ (b : Bool). b || (nat_lt (jobs_of k.tenant (names_of h)) 64 && (not (jobs_of k.tenant (names_of h) == 0) || nat_lt (tenant_count (names_of h)) 64))) fresh
     ∙ ap (λ (b : Bool). b && (not (jobs_of k.tenant (names_of h) == 0) || nat_lt (tenant_count (names_of h)) 64)) (not-below (jobs_of k.tenant (names_of h)) 64 full)
 
-hall-stays : (k : Key) (h : List Event) → jobs_of k.tenant (names_of h) ≡ 0 → 64 ≤ tenant_count (names_of h) → may_come k h ≡ false
+hall-stays : (k : Key) (h : List Event) → jobs_of k.tenant (names_of h) ≡ 0 → limits.tenants ≤ tenant_count (names_of h) → may_come k h ≡ false
 hall-stays k h none full =
     ap (λ (b : Bool). b || (nat_lt (jobs_of k.tenant (names_of h)) 64 && (not (jobs_of k.tenant (names_of h) == 0) || nat_lt (tenant_count (names_of h)) 64))) fresh
     ∙ (ap (λ (n : ℕ). nat_lt n 64 && (not (n == 0) || nat_lt (tenant_count (names_of h)) 64)) none

@@ -18,7 +18,7 @@ use Rattle.spec_run.proofs.KeyLemmas.{among-keys}
 use Rattle.spec_run.proofs.OpenLemmas.{IsApart, IsPart, part-of}
 use Rattle.spec_run.proofs.StayLemmas.{jobs-stay}
 use Rattle.spec_script.specs.Formed.{IsScript, MayAllFollow}
-use Rattle.spec_script.specs.Limits.{served}
+use Rattle.mal_base.specs.Limits.{limits}
 use Rattle.spec_script.specs.Script.{ScriptedJob, Scripted}
 use Rattle.spec_cluster.specs.Clusters.{Cluster, IsCluster, is_had, is_named}
 use Rattle.spec_cluster.specs.Laws.{Grows, PostedIsCluster}
@@ -59,7 +59,7 @@ there-of_key k (x ∷ xs) j one = by_test (is_key k (key_of_job x)) one (there-o
     by_test true q rest = refl
     by_test false q rest = rest q
 
--- a job of a list, with those before it and those behind it
+-- a job of a list, with those before it and those after it
 pub record IsBetween {X : Type 0} (xs : List X) (x : X) : Type 0 where
   pub before : List X
   pub after : List X
@@ -71,17 +71,17 @@ between-at {X} (y ∷ ys) zero x at = let same : y ≡ x = cc in record { before
 between-at {X} (y ∷ ys) (suc i) x at = let rest = between-at ys i x at in record { before = y ∷ rest.before; after = rest.after; parts = ap (λ (zs : List X). y ∷ zs) rest.parts }
 
 -- a script has one job of the key of each of its jobs
-between-one : (s : Scripted) (j : ScriptedJob) → IsScript served s → IsBetween s.jobs j → of_key (key_of_job j) s.jobs ≡ j ∷ []
+between-one : (s : Scripted) (j : ScriptedJob) → IsScript limits s → IsBetween s.jobs j → of_key (key_of_job j) s.jobs ≡ j ∷ []
 between-one s j formed is =
     let k = key_of_job j in
-    let part : IsPart is.before j is.after = part-of served is.before j is.after (subst (MayAllFollow served []) is.parts formed) in
+    let part : IsPart is.before j is.after = part-of limits is.before j is.after (subst (MayAllFollow limits []) is.parts formed) in
     ap (of_key k) is.parts
     ∙ (filter-append (λ i. is_key k (key_of_job i)) is.before (j ∷ is.after)
     ∙ (ap (λ (js : List ScriptedJob). js ++ of_key k (j ∷ is.after)) (none-of_key k is.before part.first)
     ∙ (ap (λ (b : Bool). cond b (j ∷ of_key k is.after) (of_key k is.after)) (is_key-same k)
     ∙ ap (λ (js : List ScriptedJob). j ∷ js) (none-of_key k is.after part.last))))
 
-pub one-of_key : (s : Scripted) (i : ℕ) (j : ScriptedJob) → IsScript served s → slice_get s.jobs i ≡ Some j → of_key (key_of_job j) s.jobs ≡ j ∷ []
+pub one-of_key : (s : Scripted) (i : ℕ) (j : ScriptedJob) → IsScript limits s → slice_get s.jobs i ≡ Some j → of_key (key_of_job j) s.jobs ≡ j ∷ []
 one-of_key s i j formed at = between-one s j formed (between-at s.jobs i j at)
 
 -- so has it of each key of its jobs
@@ -97,7 +97,7 @@ between-key k (x ∷ xs) there = by_test (is_key k (key_of_job x)) refl there (b
     by_test true q h rest = (x, record { before = []; after = xs; parts = refl }, (is_key-Decides k (key_of_job x)).0 q)
     by_test false q h rest = let r = rest h in (r.0, record { before = x ∷ r.1.before; after = r.1.after; parts = ap (λ (zs : List ScriptedJob). x ∷ zs) r.1.parts }, r.2)
 
-script-one : (s : Scripted) (k : Key) → IsScript served s → list_any (λ i. is_key k (key_of_job i)) s.jobs ≡ true → IsOne k s.jobs
+script-one : (s : Scripted) (k : Key) → IsScript limits s → list_any (λ i. is_key k (key_of_job i)) s.jobs ≡ true → IsOne k s.jobs
 script-one s k formed there = let found = between-key k s.jobs there in record { job = found.0; is = subst (λ (x : Key). of_key x s.jobs ≡ found.0 ∷ []) (sym found.2) (between-one s found.0 formed found.1) }
 
 -- the hall that gets a job gets it alone of its key, and no other hall gets one
@@ -167,7 +167,7 @@ some-dealt k halls n i js there = by_test (list_any (λ x. is_key k (key_of_job 
     by_test false q = absurd (both_ways (list_any (λ x. is_key k (key_of_job x)) (dealt_from halls n i js)) (apart-of_key k (dealt_from halls n i js) (dealt-none k halls n i js (none-of_key k js q))) there)
 
 -- so no two halls get jobs of one key
-pub dealt-apart : (halls m n : ℕ) (s : Scripted) (k : Key) → IsScript served s → is_named k (posted_at halls s m) ≡ true → is_named k (posted_at halls s n) ≡ true → m ≡ n
+pub dealt-apart : (halls m n : ℕ) (s : Scripted) (k : Key) → IsScript limits s → is_named k (posted_at halls s m) ≡ true → is_named k (posted_at halls s n) ≡ true → m ≡ n
 dealt-apart halls m n s k formed one other =
     let here = sym (posted-named k halls m s) ∙ one in
     let there = sym (posted-named k halls n s) ∙ other in
@@ -190,8 +190,8 @@ opened-stay (j ∷ js) = opened-stay js
 script-stays : (s : Scripted) → list_any moves (script_events s) ≡ false
 script-stays s = list_any-append moves (open_events s.jobs) (flat_map job_events s.jobs) ∙ or_from (list_any moves (open_events s.jobs)) (list_any moves (flat_map job_events s.jobs)) (opened-stay s.jobs) (jobs-stay s.jobs)
 
--- halls get their jobs one after the other; those of a front have them, and those behind have none yet
-module _ (halls workers : ℕ) (s : Scripted) (formed : IsScript served s) where
+-- halls get their jobs one after the other; those of a front have them, and those after have none yet
+module _ (halls workers : ℕ) (s : Scripted) (formed : IsScript limits s) where
   abbrev Filled : List (List Event) → Cluster
   Filled hs = record { workers = workers; halls = hs; moves = [] }
 

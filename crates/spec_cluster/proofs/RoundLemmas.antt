@@ -174,7 +174,7 @@ all-there c = first-there c.halls 0 c (λ n. ap (hall_at c.halls) (none n))
     none : (n : ℕ) → 0 + n ≡ n
     none n = omega arith
 
--- the history behind a front of halls, and another one in its place
+-- the history after a front of halls, and another one in its place
 pub front-at : (front rest : List (List Event)) (h : List Event) → hall_at (front ++ h ∷ rest) (length front) ≡ h
 front-at [] rest h = refl
 front-at (x ∷ xs) rest h = front-at xs rest h

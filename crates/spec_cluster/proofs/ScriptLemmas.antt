@@ -13,12 +13,13 @@ use Rattle.spec_run.specs.Posting.{IsOpen}
 use Rattle.spec_run.proofs.OpenLemmas.{IsPart, next-is_open, next-may_open, open-found, open-may_reask, opened-names, part-of, reasked-is_open, revised-is_open}
 use Rattle.spec_run.proofs.PostingLemmas.{next-may_revise, next-weighed, revision-more, take-one}
 use Rattle.spec_script.specs.Formed.{IsJob, IsScript, MayAllFollow, MayFollow}
-use Rattle.spec_script.specs.Limits.{Limits, served}
+use Rattle.mal_base.specs.declared.limits.Limits.{Limits}
+use Rattle.mal_base.specs.Limits.{limits}
 use Rattle.spec_script.specs.Script.{ScriptedJob, Scripted, revisions_at, revisions_in}
 use Rattle.spec_script.specs.declared.step.Step.{Step}
 use Rattle.spec_script.specs.declared.step.Step.TheVariants as steps
 
--- jobs that may follow each other, one behind another
+-- jobs that may follow each other, one after another
 follow-push : (limits : Limits) (done xs : List ScriptedJob) (j : ScriptedJob) → MayAllFollow limits done xs → MayFollow limits (done ++ xs) j → MayAllFollow limits done (xs ++ j ∷ [])
 follow-push limits done [] j follow may = (subst (λ (ds : List ScriptedJob). MayFollow limits ds j) (append-nil done) may, tt)
 follow-push limits done (x ∷ xs) j follow may = (follow.0, follow-push limits (done ++ x ∷ []) xs j follow.1 (subst (λ (ds : List ScriptedJob). MayFollow limits ds j) (sym (append_assoc done (x ∷ []) xs)) may))
@@ -49,12 +50,12 @@ item-of {X} xs i x rest e = record { low = low; is = both.0; more = both.1 }
 
 module _ (w : ℕ) where
   -- the openings
-  opened-legal : (before after : List ScriptedJob) → MayAllFollow served [] before → MayAllFollow served before after → Legal w (open_events before) → Legal w (open_events (before ++ after))
+  opened-legal : (before after : List ScriptedJob) → MayAllFollow limits [] before → MayAllFollow limits before after → Legal w (open_events before) → Legal w (open_events (before ++ after))
   opened-legal before [] front follow legal = subst (λ (js : List ScriptedJob). Legal w (open_events js)) (sym (append-nil before)) legal
   opened-legal before (j ∷ js) front follow legal =
-      let may = next-may_open (open_events before) before j (opened-names served [] before front) follow.0 in
+      let may = next-may_open (open_events before) before j (opened-names limits [] before front) follow.0 in
       let more : Legal w (open_events (before ++ j ∷ [])) = subst (Legal w) (sym (map-append (λ i. Open (key_of_job i) i.ask) before (j ∷ []))) (Legal-push w (open_events before) (Open (key_of_job j) j.ask) legal may) in
-      subst (λ (is : List ScriptedJob). Legal w (open_events is)) (append_assoc before (j ∷ []) js) (opened-legal (before ++ j ∷ []) js (follow-push served [] before j front follow.0) follow.1 more)
+      subst (λ (is : List ScriptedJob). Legal w (open_events is)) (append_assoc before (j ∷ []) js) (opened-legal (before ++ j ∷ []) js (follow-push limits [] before j front follow.0) follow.1 more)
 
   -- a history is legal, and a job of it is open
   record IsGoing (k : Key) (h : List Event) : Type 0 where
@@ -63,7 +64,7 @@ module _ (w : ℕ) where
     opened : IsOpen k revisions h
 
   -- the steps of a job
-  stepped-legal : (j : ScriptedJob) (h : List Event) (i : ℕ) (rest : List Step) → IsJob served j → drop i j.steps ≡ rest → IsOpen (key_of_job j) (revisions_in (take i j.steps)) h → Legal w h → IsGoing (key_of_job j) (h ++ step_events (key_of_job j) (length (revisions_in (take i j.steps)) + 1) rest)
+  stepped-legal : (j : ScriptedJob) (h : List Event) (i : ℕ) (rest : List Step) → IsJob limits j → drop i j.steps ≡ rest → IsOpen (key_of_job j) (revisions_in (take i j.steps)) h → Legal w h → IsGoing (key_of_job j) (h ++ step_events (key_of_job j) (length (revisions_in (take i j.steps)) + 1) rest)
   stepped-legal j h i [] formed e opened legal = subst (IsGoing (key_of_job j)) (sym (append-nil h)) (record { legal = legal; revisions = revisions_in (take i j.steps); opened = opened })
   stepped-legal j h i (steps.Revise r ∷ rest) formed e opened legal =
       let k = key_of_job j in
@@ -90,7 +91,7 @@ module _ (w : ℕ) where
       subst (IsGoing k) (append_assoc h (Reask k weight ∷ []) (step_events k n rest)) (subst (λ (rs : List Posted). IsGoing k ((h ++ Reask k weight ∷ []) ++ step_events k (length rs + 1) rest)) same next)
 
   -- and its closing
-  job-legal : (j : ScriptedJob) (h : List Event) → IsJob served j → IsOpen (key_of_job j) [] h → Legal w h → Legal w (h ++ job_events j)
+  job-legal : (j : ScriptedJob) (h : List Event) → IsJob limits j → IsOpen (key_of_job j) [] h → Legal w h → Legal w (h ++ job_events j)
   job-legal j h formed opened legal =
       let k = key_of_job j in
       let going : IsGoing k (h ++ step_events k 1 j.steps) = stepped-legal j h 0 j.steps formed refl opened legal in
@@ -98,14 +99,14 @@ module _ (w : ℕ) where
       subst (Legal w) (append_assoc h (step_events k 1 j.steps) (Close k ∷ [])) (Legal-push w now (Close k) going.legal (titled now k, record { job = open-found k going.revisions now going.opened; open_still = going.opened.unclosed }))
 
   -- so all that a script posts is
-  jobs-legal : (js before after : List ScriptedJob) → js ≡ before ++ after → MayAllFollow served [] js → MayAllFollow served before after → Legal w (open_events js ++ flat_map job_events before) → Legal w (open_events js ++ flat_map job_events (before ++ after))
+  jobs-legal : (js before after : List ScriptedJob) → js ≡ before ++ after → MayAllFollow limits [] js → MayAllFollow limits before after → Legal w (open_events js ++ flat_map job_events before) → Legal w (open_events js ++ flat_map job_events (before ++ after))
   jobs-legal js before [] e follow rest legal = subst (λ (is : List ScriptedJob). Legal w (open_events js ++ flat_map job_events is)) (sym (append-nil before)) legal
   jobs-legal js before (j ∷ after) e follow rest legal =
-      let part : IsPart before j after = part-of served before j after (subst (MayAllFollow served []) e follow) in
+      let part : IsPart before j after = part-of limits before j after (subst (MayAllFollow limits []) e follow) in
       let opened : IsOpen (key_of_job j) [] (open_events js ++ flat_map job_events before) = subst (λ (is : List ScriptedJob). IsOpen (key_of_job j) [] (open_events is ++ flat_map job_events before)) (sym e) (next-is_open before j after part) in
       let here : Legal w ((open_events js ++ flat_map job_events before) ++ job_events j) = job-legal j (open_events js ++ flat_map job_events before) rest.0.formed opened legal in
       let all : (open_events js ++ flat_map job_events before) ++ job_events j ≡ open_events js ++ flat_map job_events (before ++ j ∷ []) = append_assoc (open_events js) (flat_map job_events before) (job_events j) ∙ ap (λ (es : List Event). open_events js ++ es) (ap (λ (es : List Event). flat_map job_events before ++ es) (sym (append-nil (job_events j))) ∙ sym (flat_map-append job_events before (j ∷ []))) in
       subst (λ (is : List ScriptedJob). Legal w (open_events js ++ flat_map job_events is)) (append_assoc before (j ∷ []) after) (jobs-legal js (before ++ j ∷ []) after (e ∙ sym (append_assoc before (j ∷ []) after)) follow rest.1 (subst (Legal w) all here))
 
-  pub script-legal : (s : Scripted) → IsScript served s → Legal w (script_events s)
+  pub script-legal : (s : Scripted) → IsScript limits s → Legal w (script_events s)
   script-legal s formed = jobs-legal s.jobs [] s.jobs refl formed formed (subst (Legal w) (sym (append-nil (open_events s.jobs))) (opened-legal [] s.jobs tt formed tt))

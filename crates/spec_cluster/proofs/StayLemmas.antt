@@ -24,7 +24,7 @@ GrowsTo before after = (later : List Event) × (after ≡ before ++ later)
 abbrev pub AllGrowTo : List (List Event) → List (List Event) → Type 0
 AllGrowTo halls others = (n : ℕ) → GrowsTo (hall_at halls n) (hall_at others n)
 
--- a history begins with another, and the job neither leaves nor arrives behind that
+-- a history begins with another, and the job neither leaves nor arrives after that
 pub record GrewWithout (k : Key) (before after : List Event) : Type 0 where
   pub later : List Event
   pub grown : after ≡ before ++ later

@@ -31,7 +31,7 @@ use Rattle.spec_cluster.proofs.StayLemmas.{GrewWithout, home-own}
 pub own-is_all : OwnIsAll
 own-is_all c k n is there = home-own c k n (is.legal n) (is.at_home k n there)
 
--- the place behind the last hall has no events
+-- the place after the last hall has no events
 opened-nowhere : (k : Key) (halls : List (List Event)) → ((m : ℕ) → list_any (opens k) (hall_at halls m) ≡ false) → hall_at halls (opened_in k halls) ≡ []
 opened-nowhere k [] none = refl
 opened-nowhere k (h ∷ hs) none = ap (λ (b : Bool). hall_at (h ∷ hs) (cond b 0 (opened_in k hs + 1))) (none 0) ∙ (ap (hall_at (h ∷ hs)) (add-one (opened_in k hs)) ∙ opened-nowhere k hs (λ m. none (suc m)))

@@ -19,7 +19,7 @@ use Rattle.spec_hall.proofs.KeyLemmas.{is_key-Decides, is_text-Decides}
 use Rattle.spec_run.specs.Complete.{job_events, key_of_job, open_events, script_events, step_events}
 use Rattle.spec_run.proofs.TenantLemmas.{jobs-counted, tenants-named}
 use Rattle.spec_script.specs.Formed.{IsScript, MayAllFollow, tenants_of}
-use Rattle.spec_script.specs.Limits.{served}
+use Rattle.mal_base.specs.Limits.{limits}
 use Rattle.spec_script.specs.Script.{ScriptedJob, Scripted}
 use Rattle.spec_script.specs.declared.step.Step.{Step}
 use Rattle.spec_script.specs.declared.step.Step.TheVariants as steps
@@ -33,9 +33,9 @@ use Rattle.spec_cluster.proofs.AmongLemmas.{AreAmong, HasRoom, has-room, names-a
 use Rattle.spec_cluster.proofs.NameLemmas.{comes, named-append, named-by, or-none, unnamed-there}
 
 -- a script in form has 64 jobs of a tenant at most
-follow-jobs : (t : List ℕ) (done js : List ScriptedJob) → MayAllFollow served done js → jobs_of t (map key_of_job done) ≤ 64 → jobs_of t (map key_of_job (done ++ js)) ≤ 64
-follow-jobs t done [] follow few = subst (λ (js : List ScriptedJob). jobs_of t (map key_of_job js) ≤ 64) (sym (append-nil done)) few
-follow-jobs t done (j ∷ js) follow few = subst (λ (is : List ScriptedJob). jobs_of t (map key_of_job is) ≤ 64) (append_assoc done (j ∷ []) js) (follow-jobs t (done ++ j ∷ []) js follow.1 (subst (λ (n : ℕ). n ≤ 64) (sym (ap (jobs_of t) (map-append key_of_job done (j ∷ [])) ∙ sum_by_push (λ (k : Key). cond (is_text t k.tenant) 1 0) (map key_of_job done) (key_of_job j))) (by_test (is_text t j.tenant) refl)))
+follow-jobs : (t : List ℕ) (done js : List ScriptedJob) → MayAllFollow limits done js → jobs_of t (map key_of_job done) ≤ limits.jobs_of_tenant → jobs_of t (map key_of_job (done ++ js)) ≤ limits.jobs_of_tenant
+follow-jobs t done [] follow few = subst (λ (js : List ScriptedJob). jobs_of t (map key_of_job js) ≤ limits.jobs_of_tenant) (sym (append-nil done)) few
+follow-jobs t done (j ∷ js) follow few = subst (λ (is : List ScriptedJob). jobs_of t (map key_of_job is) ≤ limits.jobs_of_tenant) (append_assoc done (j ∷ []) js) (follow-jobs t (done ++ j ∷ []) js follow.1 (subst (λ (n : ℕ). n ≤ 64) (sym (ap (jobs_of t) (map-append key_of_job done (j ∷ [])) ∙ sum_by_push (λ (k : Key). cond (is_text t k.tenant) 1 0) (map key_of_job done) (key_of_job j))) (by_test (is_text t j.tenant) refl)))
   where
     one-more : (n : ℕ) → n < 64 → n + 1 ≤ 64
     one-more n low = omega arith
@@ -48,16 +48,16 @@ follow-jobs t done (j ∷ js) follow few = subst (λ (is : List ScriptedJob). jo
     by_test false q = no-more (jobs_of t (map key_of_job done)) few
 
 -- and 64 tenants
-follow-tenants : (done js : List ScriptedJob) → MayAllFollow served done js → length (tenants_of done) ≤ 64 → length (tenants_of (done ++ js)) ≤ 64
-follow-tenants done [] follow few = subst (λ (js : List ScriptedJob). length (tenants_of js) ≤ 64) (sym (append-nil done)) few
-follow-tenants done (j ∷ js) follow few = subst (λ (is : List ScriptedJob). length (tenants_of is) ≤ 64) (append_assoc done (j ∷ []) js) (follow-tenants (done ++ j ∷ []) js follow.1 follow.0.tenants)
+follow-tenants : (done js : List ScriptedJob) → MayAllFollow limits done js → length (tenants_of done) ≤ limits.tenants → length (tenants_of (done ++ js)) ≤ limits.tenants
+follow-tenants done [] follow few = subst (λ (js : List ScriptedJob). length (tenants_of js) ≤ limits.tenants) (sym (append-nil done)) few
+follow-tenants done (j ∷ js) follow few = subst (λ (is : List ScriptedJob). length (tenants_of is) ≤ limits.tenants) (append_assoc done (j ∷ []) js) (follow-tenants (done ++ j ∷ []) js follow.1 follow.0.tenants)
 
 -- the keys of a script
 abbrev pub keys_in : Scripted → List Key
 keys_in s = map key_of_job s.jobs
 
 -- so a job of it may come where only jobs of it came
-pub scripted-comes : (s : Scripted) (k : Key) (h : List Event) → IsScript served s → AreAmong (names_of h) (keys_in s) → list_any (is_key k) (keys_in s) ≡ true → may_come k h ≡ true
+pub scripted-comes : (s : Scripted) (k : Key) (h : List Event) → IsScript limits s → AreAmong (names_of h) (keys_in s) → list_any (is_key k) (keys_in s) ≡ true → may_come k h ≡ true
 scripted-comes s k h formed among there = by_test (is_named k h) refl
   where
     below : (n m most : ℕ) → n < m → m ≤ most → n < most
@@ -189,7 +189,7 @@ module _ (s : Scripted) where
       (set-scripted c.halls from (hall_at c.halls from ++ Leave k ∷ []) (quiet-scripted (hall_at c.halls from) (Leave k ∷ []) (λ j. refl) (among from)) among)
 
   -- so each may come
-  all-come : IsScript served s → (chosen : List (Option Key)) (from : ℕ) (c : Cluster) → AllChosen chosen → AllScripted c.halls → MayAllCome chosen from c
+  all-come : IsScript limits s → (chosen : List (Option Key)) (from : ℕ) (c : Cluster) → AllChosen chosen → AllScripted c.halls → MayAllCome chosen from c
   all-come formed [] from c chosen among = tt
   all-come formed (None ∷ rest) from c chosen among = all-come formed rest (from + 1) c chosen among
   all-come formed (Some k ∷ rest) from c chosen among =
@@ -204,7 +204,7 @@ module _ (s : Scripted) where
       by_test true = went-scripted c k from (next_hall from c) among chosen.0
       by_test false = among
 
-  rounds-move : IsScript served s → (every : ℕ) (now : Cluster) (rounds : List Cluster) (end : Cluster) (are : AreRounds every now rounds end) → AllScripted now.halls → AllMove every now rounds end are
+  rounds-move : IsScript limits s → (every : ℕ) (now : Cluster) (rounds : List Cluster) (end : Cluster) (are : AreRounds every now rounds end) → AllScripted now.halls → AllMove every now rounds end are
   rounds-move formed every now [] end are among = tt
   rounds-move formed every now (next ∷ rest) end are among =
       let mids = are.1.mids in

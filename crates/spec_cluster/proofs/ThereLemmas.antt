@@ -14,7 +14,7 @@ use Rattle.spec_hall.specs.States.{keys_of}
 use Rattle.spec_hall.specs.Turns.{HasWaited, IsSlice, TakesTurn, first_live}
 use Rattle.spec_run.specs.Complete.{key_of_job}
 use Rattle.spec_script.specs.Formed.{IsScript}
-use Rattle.spec_script.specs.Limits.{served}
+use Rattle.mal_base.specs.Limits.{limits}
 use Rattle.spec_script.specs.Script.{ScriptedJob, Scripted}
 use Rattle.spec_cluster.specs.Calls.{went}
 use Rattle.spec_cluster.specs.Clusters.{Cluster, IsCluster, home, is_had, is_named, is_there}
@@ -259,7 +259,7 @@ counted-length first zero = refl
 counted-length first (suc n) = ap suc (counted-length (first + 1) n)
 
 -- a job of the script is named in the hall that it was dealt to
-pub posted-some : (halls workers i : ℕ) (s : Scripted) (j : ScriptedJob) → IsScript served s → 0 < halls → slice_get s.jobs i ≡ Some j → SomeNamed (key_of_job j) (posted halls workers s)
+pub posted-some : (halls workers i : ℕ) (s : Scripted) (j : ScriptedJob) → IsScript limits s → 0 < halls → slice_get s.jobs i ≡ Some j → SomeNamed (key_of_job j) (posted halls workers s)
 posted-some halls workers i s j formed some at =
     let k = key_of_job j in
     let is : IsDealt k halls 0 s.jobs j = dealt-one k halls 0 s.jobs j (one-of_key s i j formed at) in

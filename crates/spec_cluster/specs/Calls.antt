@@ -1,5 +1,6 @@
 -- The calls of a cluster: each leads from one to another, with its answer.
 use Rattle.std.specs.Prelude.{◌≡◌, ◌⊎◌, ◌≢◌, ℕ, ◌+◌, ◌-◌, ◌<◌, ◌≤◌, true, false, List, [], ◌∷◌, ◌++◌, length, slice_set, Option, Some, None, is_some, Result, Ok, Err}
+use Rattle.mal_base.specs.Limits.{limits}
 use Rattle.mal_base.specs.Asks.{Terms, Weighed}
 use Rattle.mal_base.specs.declared.hall_fault.OpenFault.{OpenFault}
 use Rattle.mal_base.specs.declared.hall_fault.OpenFault.TheVariants as opening
@@ -101,16 +102,16 @@ pub record MayMove (c : Cluster) (k : Key) (to from : ℕ) : Type 0 where
 pub record IsTenantFull (c : Cluster) (k : Key) (to from : ℕ) : Type 0 where
   pub may : MayTry c k to from
   pub fresh : is_named k (hall_at c.halls (to - 1)) ≡ false
-  pub full : 64 ≤ jobs_of k.tenant (names_of (hall_at c.halls (to - 1)))
+  pub full : limits.jobs_of_tenant ≤ jobs_of k.tenant (names_of (hall_at c.halls (to - 1)))
 
 -- its tenant is new there, and 64 others are there
 pub record IsHallFull (c : Cluster) (k : Key) (to from : ℕ) : Type 0 where
   pub may : MayTry c k to from
   pub none : jobs_of k.tenant (names_of (hall_at c.halls (to - 1))) ≡ 0
-  pub full : 64 ≤ tenant_count (names_of (hall_at c.halls (to - 1)))
+  pub full : limits.tenants ≤ tenant_count (names_of (hall_at c.halls (to - 1)))
 
--- a job goes to the hall of a number, or that is refused and nothing changed: no hall has the job, there is no such hall,
--- the job is in it, its name is new there and has no room, or memory was wanting for what may be
+-- a job goes to the hall of a number, or that is refused and nothing changed: no hall has the job, there is no such
+-- hall, the job is in it, its name is new there and has no room, or memory ran out for what may be
 abbrev pub IsMoving : Cluster → Key → ℕ → Result (Unit {0}) MoveFault → Cluster → Type 0
 IsMoving c k to (Ok done) after = (from : ℕ) × IsMove c k to from after
 IsMoving c k to (Err moving.NoJob) after = (home k c.halls ≡ None) × (after ≡ c)

@@ -52,18 +52,18 @@ pub record HasArrived (k : Key) (history : List Event) (from : ℕ) (brought : L
   pub parts : history ≡ past ++ Arrive k brought ∷ later
   pub place : from ≡ length past + 1
 
--- a stay begins with the history of its hall where it is a job's first, else behind the arrival of the job with all that
+-- a stay begins with the history of its hall where it is a job's first, else after the arrival of the job with all that
 -- it did in its stays before
 abbrev pub Begins : Key → List (List Event) → List Visit → Visit → Type 0
 Begins k halls before v = ((before ≡ []) × (v.from ≡ 0)) ⊎ HasArrived k (hall_at halls v.hall) v.from (done_in k halls before)
 
--- a stay of a job behind those before: the job does not arrive in it again, and has left or not
+-- a stay of a job after those before: the job does not arrive in it again, and has left or not
 pub record IsStay (k : Key) (halls : List (List Event)) (before : List Visit) (v : Visit) (left : Bool) : Type 0 where
   pub begins : Begins k halls before v
   pub once : list_any (arrives k) (until_leave k (since halls v)) ≡ false
   pub ends : list_any (leaves k) (since halls v) ≡ left
 
--- stays of a job, each behind those before, all of which it has left
+-- stays of a job, each after those before, all of which it has left
 abbrev pub AreLeft : Key → List (List Event) → List Visit → List Visit → Type 0
 AreLeft k halls before [] = Unit {0}
 AreLeft k halls before (v ∷ vs) = IsStay k halls before v true × AreLeft k halls (before ++ v ∷ []) vs

@@ -21,7 +21,7 @@ use Rattle.spec_hall.specs.Turns.{TakesTurn, first_live}
 use Rattle.spec_run.specs.Complete.{key_of_job}
 use Rattle.spec_run.specs.Run.{IsEvident, IsRun, job_replies}
 use Rattle.spec_script.specs.Formed.{IsScript}
-use Rattle.spec_script.specs.Limits.{served}
+use Rattle.mal_base.specs.Limits.{limits}
 use Rattle.spec_script.specs.Script.{ScriptedJob, Scripted}
 use Rattle.spec_cluster.specs.declared.fault.MoveFault.{MoveFault}
 use Rattle.spec_cluster.specs.declared.fault.MoveFault.TheVariants as moving
@@ -97,7 +97,7 @@ pub record AnswersStay : Type 0 where
 abbrev pub AllIsEvident : Type 0
 AllIsEvident = (c : Cluster) (k : Key) → IsCluster c → IsEvident (all_of k c.halls c.moves)
 
--- all that a job did was done for one worker: its demand was always 1, and no start of it wanted for memory
+-- all that a job did was done for one worker: its demand was always 1, and no start of it ran out of memory
 pub record DidForOne (did : List Own) : Type 0 where
   pub demand : (solo did).ask.demand ≡ 1
   pub always : list_all asks_for_one did ≡ true
@@ -118,19 +118,19 @@ MovesGoOn =
 
 -- the jobs of a script that a hall gets are a script
 abbrev pub DealtIsScript : Type 0
-DealtIsScript = (halls n : ℕ) (s : Scripted) → IsScript served s → IsScript served (record { jobs = dealt_from halls n 0 s.jobs })
+DealtIsScript = (halls n : ℕ) (s : Scripted) → IsScript limits s → IsScript limits (record { jobs = dealt_from halls n 0 s.jobs })
 
 -- halls that got their jobs are a cluster
 abbrev pub PostedIsCluster : Type 0
-PostedIsCluster = (halls workers : ℕ) (s : Scripted) → 2 ≤ halls → halls ≤ 8 → 1 ≤ workers → workers ≤ 64 → IsScript served s → IsCluster (posted halls workers s)
+PostedIsCluster = (halls workers : ℕ) (s : Scripted) → 2 ≤ halls → halls ≤ 8 → 1 ≤ workers → workers ≤ 64 → IsScript limits s → IsCluster (posted halls workers s)
 
 -- after any rounds some hall has each job of the script
 abbrev pub JobsAreThere : Type 0
 JobsAreThere =
-    (halls workers every i : ℕ) (s : Scripted) (rounds : List Cluster) (end : Cluster) (j : ScriptedJob) → IsScript served s
+    (halls workers every i : ℕ) (s : Scripted) (rounds : List Cluster) (end : Cluster) (j : ScriptedJob) → IsScript limits s
     → AreRounds every (posted halls workers s) rounds end → IsCluster end → slice_get s.jobs i ≡ Some j → is_some (home (key_of_job j) end.halls) ≡ true
 
--- a round keeps what holds of a cluster, and so do rounds one behind the other
+-- a round keeps what holds of a cluster, and so do rounds one after the other
 pub record RoundsKeep : Type 0 where
   pub round : (every : ℕ) (c after : Cluster) → IsCluster c → IsRound every c after → IsCluster after
   pub rounds : (every : ℕ) (c end : Cluster) (rounds : List Cluster) → IsCluster c → AreRounds every c rounds end → IsCluster end
@@ -152,12 +152,12 @@ AllMove every now (next ∷ rest) end are = MayAllCome (map first_live are.1.mid
 
 -- in the rounds over a script no move is refused
 abbrev pub MovesAreTaken : Type 0
-MovesAreTaken = (halls workers every : ℕ) (s : Scripted) (rounds : List Cluster) (end : Cluster) → IsScript served s → (are : AreRounds every (posted halls workers s) rounds end) → AllMove every (posted halls workers s) rounds end are
+MovesAreTaken = (halls workers every : ℕ) (s : Scripted) (rounds : List Cluster) (end : Cluster) → IsScript limits s → (are : AreRounds every (posted halls workers s) rounds end) → AllMove every (posted halls workers s) rounds end are
 
--- a job that always asks for one worker is replied to in a cluster as in one hall that ran the same script, where no start
--- of it wanted for memory
+-- a job that always asks for one worker is replied to in a cluster as in one hall that ran the same script, where no
+-- start of it ran out of memory
 abbrev pub SinglesReplyAlike : Type 0
 SinglesReplyAlike =
     (halls workers every others i : ℕ) (s : Scripted) (rounds : List Cluster) (end : Cluster) (log out : List ℕ) (history : List Event) (log_other out_other : List ℕ) (j : ScriptedJob)
-    → IsScript served s → IsClusterRun halls workers every s rounds end log out → IsRun others s history log_other out_other → slice_get s.jobs i ≡ Some j → is_for_one j ≡ true
+    → IsScript limits s → IsClusterRun halls workers every s rounds end log out → IsRun others s history log_other out_other → slice_get s.jobs i ≡ Some j → is_for_one j ≡ true
     → list_all is_fed (all_of (key_of_job j) end.halls end.moves) ≡ true → list_all is_fed (own (key_of_job j) history) ≡ true → moved_replies end j ≡ job_replies history j

@@ -24,7 +24,7 @@ AllTurn workers n (past ∷ pasts) (now ∷ nows) = TakesTurn workers n past now
 abbrev pub may_come : Key → List Event → Bool
 may_come k h = is_named k h || (nat_lt (jobs_of k.tenant (names_of h)) 64 && (not (jobs_of k.tenant (names_of h) == 0) || nat_lt (tenant_count (names_of h)) 64))
 
--- the place of the next hall, the first behind the last
+-- the place of the next hall, the first after the last
 abbrev pub next_hall : ℕ → Cluster → ℕ
 next_hall from c = (from + 1) % length c.halls
 
@@ -48,24 +48,24 @@ pub record IsRound (every : ℕ) (before after : Cluster) : Type 0 where
 abbrev pub is_live : Cluster → Bool
 is_live c = list_any (λ h. not (length (lives (states h)) == 0)) c.halls
 
--- rounds, one behind the other, while a job is live: these are the clusters after each
+-- rounds, one after the other, while a job is live: these are the clusters after each
 abbrev pub AreRounds : ℕ → Cluster → List Cluster → Cluster → Type 0
 AreRounds every now [] end = (end ≡ now) × (is_live now ≡ false)
 AreRounds every now (next ∷ rest) end = (is_live now ≡ true) × IsRound every now next × AreRounds every next rest end
 
--- memory was wanting while a cluster went rounds: all events and moves that were made stay
+-- memory ran out while a cluster went rounds: all events and moves that were made stay
 pub record HasBegun (before after : Cluster) : Type 0 where
   pub workers : after.workers ≡ before.workers
   pub histories : (n : ℕ) → (later : List Event) × (hall_at after.halls n ≡ hall_at before.halls n ++ later)
   pub more : List Move
   pub moves : after.moves ≡ before.moves ++ more
 
--- a turn that stopped short of so many slices, since memory was wanting where the worker picked again
+-- a turn that stopped short of so many slices, since memory ran out where the worker picked again
 abbrev pub StopsShort : ℕ → ℕ → List Event → List Event → Type 0
 StopsShort workers zero past now = ⊥
 StopsShort workers (suc n) past now = HasCalled workers past (Picks 1) (Err OutOfMemory) now ⊎ ((mid : List Event) × IsSlice workers past mid × StopsShort workers n mid now)
 
--- the halls before a place took their turns, the turn of that at the place stopped short, those behind it are as before,
+-- the halls before a place took their turns, the turn of that at the place stopped short, those after it are as before,
 -- and no job moved
 pub record IsTurning (every at : ℕ) (before now : Cluster) : Type 0 where
   pub within : at < length before.halls
@@ -86,12 +86,12 @@ pub record IsGoing (every count : ℕ) (before now : Cluster) : Type 0 where
 abbrev pub IsPart : ℕ → Cluster → Cluster → Type 0
 IsPart every before now = ((at : ℕ) × IsTurning every at before now) ⊎ ((count : ℕ) × IsGoing every count before now)
 
--- rounds, one behind the other, each while a job is live: these are the clusters after each, of which this is the last
+-- rounds, one after the other, each while a job is live: these are the clusters after each, of which this is the last
 abbrev pub GoRounds : ℕ → Cluster → List Cluster → Cluster → Type 0
 GoRounds every now [] last = last ≡ now
 GoRounds every now (next ∷ rest) last = (is_live now ≡ true) × IsRound every now next × GoRounds every next rest last
 
--- memory was wanting in a round: the rounds before it are whole, and of it a part stays
+-- memory ran out in a round: the rounds before it are whole, and of it a part stays
 pub record IsBrokenOff (every : ℕ) (before after : Cluster) : Type 0 where
   pub rounds : List Cluster
   pub last : Cluster

@@ -40,7 +40,7 @@ abbrev pub opens : Key → Event → Bool
 opens k (Open j ask) = is_key k j
 opens k event = false
 
--- the place of the first hall that opened a job, that behind the last hall where none did
+-- the place of the first hall that opened a job, that after the last hall where none did
 abbrev pub opened_in : Key → List (List Event) → ℕ
 opened_in k [] = 0
 opened_in k (h ∷ hs) = if list_any (opens k) h then 0 else opened_in k hs + 1

@@ -49,8 +49,8 @@ pub fn all_is_evident()
     ensures { AllIsEvident }
 {}
 
-/// A job whose demand was always 1 and that never wanted for memory agrees with one of the same name, budget, profile and
-/// revisions that one hall ran, as far as both go.
+/// A job whose demand was always 1 and that never ran out of memory agrees with one of the same name, budget, profile
+/// and revisions that one hall ran, as far as both go.
 pub fn singles_agree()
     ensures { SinglesAgree }
 {}
@@ -71,7 +71,7 @@ pub fn jobs_are_there()
     ensures { JobsAreThere }
 {}
 
-/// A round keeps what holds of a cluster, and so do rounds one behind the other.
+/// A round keeps what holds of a cluster, and so do rounds one after the other.
 pub fn rounds_keep()
     ensures { RoundsKeep }
 {}

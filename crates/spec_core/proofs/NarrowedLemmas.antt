@@ -80,7 +80,7 @@ kept-failed w c failed lines n inside refuted i low = true_from_ne_false (has fa
     differ : (x : ℕ) → has failed x ≡ true → has failed (get_or c.core i 0) ≡ false → get_or c.core i 0 ≡ x → ⊥
     differ x h out same = let now : has failed (get_or c.core i 0) ≡ true = subst (λ (k : ℕ). has failed k ≡ true) (sym same) h in absurd (cc)
 
--- a list is its first elements, the next, and those behind it
+-- a list is its first elements, the next, and those after it
 pub split-at : (xs : List ℕ) (k : ℕ) → k < length xs → take k xs ++ (get_or xs k 0 ∷ drop (suc k) xs) ≡ xs
 split-at xs k low = ap (λ (ys : List ℕ). take k xs ++ ys) (sym (drop-cons xs k 0 low)) ∙ take-append-drop k xs
 

@@ -17,7 +17,7 @@ Inside xs ys = (x : ℕ) → has xs x ≡ true → has ys x ≡ true
 pub tail-rises : (l : ℕ) (ls : List ℕ) → rises (l ∷ ls) ≡ true → rises ls ≡ true
 tail-rises l ls h = (and_parts (is_below l ls) (rises ls) h).1
 
--- in a rising list what stands behind the first is of a greater variable
+-- in a rising list what stands after the first is of a greater variable
 pub later : (l : ℕ) (ls : List ℕ) (x : ℕ) → rises (l ∷ ls) ≡ true → has ls x ≡ true → l / 2 < x / 2
 later l [] x h t = absurd (cc)
 later l (m ∷ ms) x h t = by_place (later m ms x (tail-rises l (m ∷ ms) h)) (ltb-true (l / 2) (m / 2) (and_parts (nat_lt (l / 2) (m / 2)) (rises (m ∷ ms)) h).0) (or_cases (m == x) (has ms x) t)

@@ -3,6 +3,7 @@ use Rattle.std.specs.Prelude.{Contains, remove}
 use Rattle.std.specs.List.{list_all}
 use Rattle.std.proofs.lemmas.Bool.{and_parts, and_from, eqb-true, eqb-false}
 use Rattle.std.proofs.lemmas.List.Elements.{All-contains}
+use Rattle.mal_base.specs.Limits.{limits}
 use Rattle.mal_base.specs.Clauses.{rises}
 use Rattle.mal_base.specs.Formulas.{is_within, is_clause_of, is_within_limits, literals_of}
 use Rattle.mal_base.specs.NumberedClause.{Line}
@@ -22,7 +23,7 @@ use Rattle.spec_core.proofs.NarrowedLemmas.{one-model-more, proof-narrows, openi
 pub search-goes-on : SearchGoesOn
 search-goes-on w = course-goes-on (step w)
 
--- what holds of what follows behind so many questions
+-- what holds of what follows after so many questions
 abbrev pub Holds : Instance → ℕ → Next (Option Narrowed) Minimal → Type 0
 Holds w n (Asks c r) = IsAsked w n c r
 Holds w n (Ends end) = IsRight w end × (n ≤ length w.assumptions + 1)
@@ -89,13 +90,13 @@ without-posted : (w : Instance) (c : Narrowed) → IsServed w → IsNarrowed w c
 without-posted w c s h =
     let v : ℕ = w.formula.variables in
     let others : List ℕ = remove c.core (length c.models) in
-    let limits = and_parts (is_within_limits v w.formula.clauses) (list_all (is_clause_of v) w.formula.clauses) s.formed in
-    let two = and_parts (nat_le v 65536 && nat_le (length w.formula.clauses) 1048576) (nat_le (literals_of w.formula.clauses) 16777216) limits.0 in
-    let one = and_parts (nat_le v 65536) (nat_le (length w.formula.clauses) 1048576) two.0 in
+    let within = and_parts (is_within_limits v w.formula.clauses) (list_all (is_clause_of v) w.formula.clauses) s.formed in
+    let two = and_parts (nat_le v limits.variables && nat_le (length w.formula.clauses) limits.clauses) (nat_le (literals_of w.formula.clauses) limits.literals) within.0 in
+    let one = and_parts (nat_le v limits.variables) (nat_le (length w.formula.clauses) limits.clauses) two.0 in
     let given : Inside c.core w.assumptions = inside-from c.core w.assumptions (λ l k. All-contains (Contains w.assumptions) c.core l h.given k) in
     let within : is_within v others ≡ true = all-inside (λ (l : ℕ). nat_le 1 (l / 2) && nat_le (l / 2) v) others w.assumptions (λ x k. given x (removed-inside c.core (length c.models) x k)) s.within in
     and_from (is_within_limits v [] && true) (rises others && is_within v others)
-    (and_from (is_within_limits v []) true (and_from (nat_le v 65536 && true) true (and_from (nat_le v 65536) true one.0 refl) refl) refl)
+    (and_from (is_within_limits v []) true (and_from (nat_le v limits.variables && true) true (and_from (nat_le v limits.variables) true one.0 refl) refl) refl)
     (and_from (rises others) (is_within v others) (removed-rises c.core (length c.models) h.rising) within)
 
 question-of : (w : Instance) (n : ℕ) (c : Option Narrowed) (r : Posted) → IsServed w → IsAsked w n c r → IsQuestion w n c r
@@ -111,7 +112,7 @@ search-asks w asked c r s t l = question-of w (length asked) c r s (search-holds
 pub search-is-right : SearchIsRight
 search-is-right w asked end s t l = search-holds w asked (Ends end) s t l
 
--- a course that ends behind a question was at that question before
+-- a course that ends after a question was at that question before
 was-asked : (w : Instance) (now : Next (Option Narrowed) Minimal) (asked : List Asked) (x : Asked) (end : Minimal) → Leads (step w) now (asked ++ x ∷ []) (Ends end) → (c : Option Narrowed) × (step w c x.told ≡ Ends end)
 was-asked w (Ends e) [] x end l = absurd l
 was-asked w (Asks c r) [] x end l = (c, l.1)

@@ -37,7 +37,7 @@ without_next w c = record { variables = w.formula.variables; clauses = []; assum
 abbrev pub going : Instance → Narrowed → Next (Option Narrowed) Minimal
 going w c = if length c.models == length c.core then Ends (Core c) else Asks (Some c) (without_next w c)
 
--- behind a model: the first time it satisfies all assumptions, and then the next literal stays
+-- after a model: the first time it satisfies all assumptions, and then the next literal stays
 abbrev pub satisfied : Instance → Option Narrowed → List Bool → Next (Option Narrowed) Minimal
 satisfied w None model = Ends (Satisfiable model)
 satisfied w (Some c) model = going w (record { core = c.core; lines = c.lines; models = c.models ++ model ∷ [] })

@@ -6,7 +6,7 @@ use Rattle.spec_course.specs.Course.{Asked, Leads, Starved}
 use Rattle.spec_course.specs.Course.Next.{Ends}
 use Rattle.spec_core.specs.Core.{Instance, Narrowed, Core, Satisfiable, Unknown, opening, step, first}
 
--- a question under these assumptions behind the first, and what is told of it
+-- a question under these assumptions after the first, and what is told of it
 abbrev pub under : Instance → List ℕ → ReplyBody → Asked
 under w assumptions told = record { revision = record { variables = w.formula.variables; clauses = []; assumptions = assumptions }; told = told }
 

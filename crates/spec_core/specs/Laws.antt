@@ -20,7 +20,7 @@ KeptStayFirst =
 abbrev pub SearchGoesOn : Type 0
 SearchGoesOn = (w : Instance) → CourseGoesOn (step w)
 
--- behind so many questions it is asked without the next literal of the core so far; with each question but the first
+-- after so many questions it is asked without the next literal of the core so far; with each question but the first
 -- one literal less has no model
 pub record AsksWithout (w : Instance) (n : ℕ) (c : Narrowed) (r : Posted) : Type 0 where
   pub narrowed : IsNarrowed w c
@@ -28,7 +28,7 @@ pub record AsksWithout (w : Instance) (n : ℕ) (c : Narrowed) (r : Posted) : Ty
   pub fewer : n + (length c.core - length c.models) ≤ length w.assumptions + 1
   pub without : r ≡ without_next w c
 
--- what a search asks behind so many questions: first the formula under all assumptions
+-- what a search asks after so many questions: first the formula under all assumptions
 abbrev pub IsAsked : Instance → ℕ → Option Narrowed → Posted → Type 0
 IsAsked w n None r = (n ≡ 0) × (r ≡ opening w)
 IsAsked w n (Some c) r = AsksWithout w n c r
@@ -45,7 +45,7 @@ SearchAsks =
     → AreSupported w.formula.variables w.formula.clauses asked → Leads (step w) (first w) asked (Asks c r)
     → IsQuestion w (length asked) c r
 
--- where what is told has its evidence, a search ends with what is right, behind one question more than there are
+-- where what is told has its evidence, a search ends with what is right, after one question more than there are
 -- assumptions at most
 abbrev pub SearchIsRight : Type 0
 SearchIsRight =

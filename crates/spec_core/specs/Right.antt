@@ -1,5 +1,6 @@
 -- What is right of an instance and of its minimal core.
 use Rattle.std.specs.Prelude.{◌≡◌, ℕ, ◌<◌, ◌≤◌, true, false, Bool, List, [], length, get_or, remove, All, Contains}
+use Rattle.mal_base.specs.Limits.{limits}
 use Rattle.mal_base.specs.Clauses.{rises}
 use Rattle.mal_base.specs.Formulas.{is_formula, is_within}
 use Rattle.spec_logic.specs.Logic.{is_true_in, satisfies_with, IsUnsatisfiable}
@@ -13,7 +14,7 @@ pub record IsServed (w : Instance) : Type 0 where
   pub formed : is_formula w.formula ≡ true
   pub rising : rises w.assumptions ≡ true
   pub within : is_within w.formula.variables w.assumptions ≡ true
-  pub few : length w.assumptions ≤ 255
+  pub few : length w.assumptions ≤ limits.assumptions
 
 -- a model has a value for each variable, satisfies the formula and these literals, and not this one
 pub record IsWitness (w : Instance) (others : List ℕ) (lit : ℕ) (model : List Bool) : Type 0 where

@@ -9,7 +9,7 @@ pub fn search_examples()
     ensures { HasSearches }
 {}
 
-/// Kept literals stand first in a rising list that has them and others behind them alone.
+/// Kept literals stand first in a rising list that has them and others after them alone.
 pub fn kept_stay_first()
     ensures { KeptStayFirst }
 {}
@@ -21,7 +21,7 @@ pub fn search_goes_on()
     ensures asks { SearchAsks }
 {}
 
-/// Where what is told has its evidence, a search ends with what is right, behind one question more than there are
+/// Where what is told has its evidence, a search ends with what is right, after one question more than there are
 /// assumptions at most; and unknown exactly where the last that was told is.
 pub fn search_is_right()
     ensures right { SearchIsRight }

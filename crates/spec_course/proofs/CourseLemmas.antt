@@ -18,7 +18,7 @@ IsKept {S} {O} step variables clauses Holds =
     (n : ℕ) (s : S) (r : Posted) (told : ReplyBody)
     → Holds n (Asks s r) → IsSupported variables clauses r.assumptions told → Holds (suc n) (step s told)
 
--- it holds behind all questions
+-- it holds after all questions
 abbrev pub CourseKeeps : {S O : Type 0} → (S → ReplyBody → Next S O) → Type 1
 CourseKeeps {S} {O} step =
     (variables : ℕ) (clauses : List (Option (List ℕ))) (Holds : ℕ → Next S O → Type 0) → IsKept step variables clauses Holds

@@ -6,7 +6,7 @@ use Rattle.spec_report.specs.Replies.{ReplyBody}
 use Rattle.spec_course.specs.Course.{Next, Asked, Leads}
 use Rattle.spec_course.specs.Course.Next.{Asks}
 
--- a course takes one more question behind it
+-- a course takes one more question after it
 abbrev pub CourseGoesOn : {S O : Type 0} → (S → ReplyBody → Next S O) → Type 0
 CourseGoesOn {S} {O} step =
     (now : Next S O) (asked : List Asked) (s : S) (r : Posted) (x : Asked)

@@ -3,6 +3,7 @@ use Rattle.std.proofs.Common.{◌≡◌, ℕ, zero, suc, ◌/◌, ◌%◌, ◌<�
 use Rattle.std.specs.List.{list_all, join_with_byte}
 use Rattle.std.proofs.lemmas.Bool.{leb-true, le-leb}
 use Rattle.std.proofs.lemmas.List.{map-append}
+use Rattle.mal_base.specs.Limits.{limits}
 use Rattle.mal_base.specs.Formulas.{Formulated, is_within, is_clause_of, is_within_limits, is_formula}
 use Rattle.mal_base.proofs.Sorting.{and-left, and-right, and-both}
 use Rattle.spec_text.specs.Inputs.{words_of}
@@ -38,7 +39,7 @@ abs-number_of lit = by_sign (lit % 2 == 0) (lit / 2)
     by_sign false zero = refl
     by_sign false (suc n) = refl
 
-pub literal_again : (v lit : ℕ) → v ≤ 65536 → (nat_le 1 (lit / 2) && nat_le (lit / 2) v) ≡ true → number_in (literal_word lit) v ≡ Number (number_of lit)
+pub literal_again : (v lit : ℕ) → v ≤ limits.variables → (nat_le 1 (lit / 2) && nat_le (lit / 2) v) ≡ true → number_in (literal_word lit) v ≡ Number (number_of lit)
 literal_again v lit low h =
     let high : lit / 2 ≤ v = leb-true (lit / 2) v (and-right (nat_le 1 (lit / 2)) _ h) in
     let bound : nat_abs (number_of lit) ≤ v = omega (arith, abs-number_of lit) in
@@ -48,7 +49,7 @@ zero_again : (v : ℕ) → number_in (codes "0") v ≡ Number (pos 0)
 zero_again v = ap (λ (t : Bool). cond t (Number (pos 0)) TooLarge) (le-leb 0 v (omega arith))
 
 -- the words of a clause say its numbers
-pub clause_again : (v : ℕ) (lits : List ℕ) → v ≤ 65536 → is_within v lits ≡ true → map (λ w. number_in w v) (closed_words lits) ≡ map (λ z. Number z) (closed_numbers lits)
+pub clause_again : (v : ℕ) (lits : List ℕ) → v ≤ limits.variables → is_within v lits ≡ true → map (λ w. number_in w v) (closed_words lits) ≡ map (λ z. Number z) (closed_numbers lits)
 clause_again v [] low h = ap (λ (x : NumberWord). x ∷ []) (zero_again v)
 clause_again v (l ∷ ls) low h = ap₂ (λ (x : NumberWord) (xs : List NumberWord). x ∷ xs) (literal_again v l low (and-left _ _ h)) (clause_again v ls low (and-right (nat_le 1 (l / 2) && nat_le (l / 2) v) _ h))
 
@@ -57,7 +58,7 @@ unfolding clause_lits
 lits_within v None h = and-both _ _ (and-both _ _ refl h) (and-both _ _ (and-both _ _ refl h) refl)
 lits_within v (Some lits) h = and-right _ _ h
 
-clauses_again : (v : ℕ) (cs : List (Option (List ℕ))) → v ≤ 65536 → list_all (is_clause_of v) cs ≡ true → map (λ w. number_in w v) (words_in (map clause_words cs)) ≡ map (λ z. Number z) (flat_map closed_numbers (map clause_lits cs))
+clauses_again : (v : ℕ) (cs : List (Option (List ℕ))) → v ≤ limits.variables → list_all (is_clause_of v) cs ≡ true → map (λ w. number_in w v) (words_in (map clause_words cs)) ≡ map (λ z. Number z) (flat_map closed_numbers (map clause_lits cs))
 clauses_again v [] low h = refl
 clauses_again v (c ∷ cs) low h =
     map-append (λ w. number_in w v) (clause_words c) (words_in (map clause_words cs))
@@ -91,11 +92,11 @@ clause_rows (c ∷ cs) = (subst IsRow (sym (words-lits c)) (closed_row (clause_l
 pub header_row : (v n : ℕ) → IsRow (header_words v n)
 header_row v n = (omega arith, ((omega arith, (omega arith, tt)), ((omega arith, (omega arith, (omega arith, (omega arith, tt)))), (decimals_are_clean v, (decimals_are_clean n, tt)))))
 
-pub closed_counts : (v : ℕ) (lits : List ℕ) → v ≤ 65536 → is_within v lits ≡ true → is_passed (closed_words lits) ≡ false
+pub closed_counts : (v : ℕ) (lits : List ℕ) → v ≤ limits.variables → is_within v lits ≡ true → is_passed (closed_words lits) ≡ false
 closed_counts v [] low h = refl
 closed_counts v (l ∷ ls) low h = number-no_comment (literal_word l) v (number_of l) (literal_again v l low (and-left _ _ h))
 
-clauses_count : (v : ℕ) (cs : List (Option (List ℕ))) → v ≤ 65536 → list_all (is_clause_of v) cs ≡ true → counted_of (map clause_words cs) ≡ map clause_words cs
+clauses_count : (v : ℕ) (cs : List (Option (List ℕ))) → v ≤ limits.variables → list_all (is_clause_of v) cs ≡ true → counted_of (map clause_words cs) ≡ map clause_words cs
 clauses_count v [] low h = refl
 clauses_count v (c ∷ cs) low h =
     keeps_row (clause_words c) (map clause_words cs) (ap is_passed (words-lits c) ∙ closed_counts v (clause_lits c) low (lits_within v c (and-left _ _ h)))
@@ -109,7 +110,7 @@ words_again (row ∷ rows) h = ap₂ (λ (r : List (List ℕ)) (rs : List (List 
 pub rows_again : (rows : List (List (List ℕ))) → AreRows rows → rows_of (text_of rows) ≡ rows
 rows_again rows h = ap (map words_of) (lines_read_again rows h) ∙ words_again rows h
 
-pub written_rows : (f : Formulated) → f.variables ≤ 65536 → list_all (is_clause_of f.variables) f.clauses ≡ true → counted_rows (spelling f) ≡ header_words f.variables (length f.clauses) ∷ (map clause_words f.clauses ++ [])
+pub written_rows : (f : Formulated) → f.variables ≤ limits.variables → list_all (is_clause_of f.variables) f.clauses ≡ true → counted_rows (spelling f) ≡ header_words f.variables (length f.clauses) ∷ (map clause_words f.clauses ++ [])
 unfolding spelling
 written_rows f low h =
     ap counted_of (rows_again (formula_rows f) (header_row f.variables (length f.clauses), clause_rows f.clauses))
@@ -118,10 +119,10 @@ written_rows f low h =
 -- a formula in form is spelled by the text that it is written as
 pub written_is_spelled : (f : Formulated) → is_formula f ≡ true → Spells (spelling f) f
 written_is_spelled f h =
-    let limits : is_within_limits f.variables f.clauses ≡ true = and-left _ _ h in
+    let served : is_within_limits f.variables f.clauses ≡ true = and-left _ _ h in
     let forms : list_all (is_clause_of f.variables) f.clauses ≡ true = and-right (is_within_limits f.variables f.clauses) _ h in
-    let low : f.variables ≤ 65536 = leb-true f.variables 65536 (and-left _ _ (and-left _ _ limits)) in
-    let few : length f.clauses ≤ 1048576 = leb-true (length f.clauses) 1048576 (and-right (nat_le f.variables 65536) _ (and-left _ _ limits)) in
+    let low : f.variables ≤ limits.variables = leb-true f.variables limits.variables (and-left _ _ (and-left _ _ served)) in
+    let few : length f.clauses ≤ limits.clauses = leb-true (length f.clauses) limits.clauses (and-right (nat_le f.variables limits.variables) _ (and-left _ _ served)) in
     let wide_v : f.variables < 2 ^ 64 = omega arith in
     let wide_n : length f.clauses < 2 ^ 64 = omega arith in
     record {
@@ -135,5 +136,5 @@ written_is_spelled f h =
       within = all_within f.variables f.clauses forms;
       ends = inl refl;
       clauses = all_made f.variables f.clauses forms;
-      limits = limits;
+      limits = served;
     }

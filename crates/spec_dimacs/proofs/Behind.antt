@@ -1,8 +1,9 @@
--- The lines of a text that count, one after another: the header, the lines of the clauses, and those behind them.
+-- The lines of a text that count, one after another: the header, the lines of the clauses, and those after them.
 use Rattle.std.proofs.Common.{◌≡◌, ℕ, zero, suc, ◌+◌, max, Bool, true, false, not, cond, ◌==◌, nat_lt, List, [], ◌∷◌, ◌++◌, map, filter, get_or, drop, codes, ℤ, pos, negsuc, Option, Some, None, Result, Ok, Err, ◌⊎◌, inl, inr, refl, sym, ap, ap₂, ◌∙◌, subst}
 use Rattle.std.specs.List.{AllByRecursion}
 use Rattle.std.specs.Str.{bytes_eq}
 use Rattle.std.proofs.lemmas.Slice.Eq.{bytes_eq-Decides}
+use Rattle.mal_base.specs.Limits.{limits}
 use Rattle.mal_base.specs.Formulas.{Formulated, size_of}
 use Rattle.mal_base.specs.declared.limit_kind.LimitKind.TheVariants.{Literals}
 use Rattle.spec_text.specs.Numbers.{NumberWord, number_in}
@@ -57,7 +58,7 @@ on_line_ok line (Ok x) f e = ap (unlined x) e
     unlined x (Err z) = Ok x
 on_line_ok line (Err x) f e = absurd (cc)
 
--- what is left of a text behind its header
+-- what is left of a text after its header
 pub left_leads : (rows : List (List (List ℕ))) (line : ℕ) (b : Block) (f : Formulated) → read_rows rows line (Some b) ≡ Ok f → LeadTo (counted_of rows) b f
 left_leads [] line b f e = record { behind = b; reads = refl; ends = on_line_ok (max 1 line) (ended b) f e }
 left_leads (row ∷ rows) line b f e = by_test (is_passed row) refl (λ d. left_leads rows (suc line) d f) e
@@ -163,7 +164,7 @@ pub ended_at : (s : Stage) (b : Block) → ended (record b { stage = s }) ≡ en
 unfolding at_stage
 ended_at s b = ap (λ (r : Result Formulated BlockFault). cond (b.found == b.declared) r (Err (ClauseCount b.declared b.found))) (formula_at b.pending s b)
 
--- behind the lines `%` and `0` nothing counts
+-- after the lines `%` and `0` nothing counts
 none_behind : (rows : List (List (List ℕ))) (b d : Block) → AllByRecursion (λ row. is_passed row ≡ false) rows → b.stage ≡ stage.Zero → after_rows rows b ≡ Ok d → (rows ≡ []) × (d ≡ b)
 none_behind [] b d h q e = (refl, sym (ok_block b d e))
 none_behind ([] ∷ rows) b d h q e = absurd (cc (h.0))
@@ -173,7 +174,7 @@ none_behind ((first ∷ others) ∷ rows) b d h q e =
     let zero : after_counted stage.Zero first others b ≡ Ok step.0 = ap (λ (s : Stage). after_counted s first others b) (sym q) ∙ read in
     absurd (cc)
 
--- behind the line `%` at most one line counts
+-- after the line `%` at most one line counts
 one_behind : (rows : List (List (List ℕ))) (b d : Block) → AllByRecursion (λ row. is_passed row ≡ false) rows → b.stage ≡ stage.Percent → after_rows rows b ≡ Ok d → ((rows ≡ []) ⊎ (rows ≡ (codes "0" ∷ []) ∷ [])) × (ended d ≡ ended b)
 one_behind [] b d h q e = (inl refl, ap ended (sym (ok_block b d e)))
 one_behind ([] ∷ rows) b d h q e = absurd (cc (h.0))
@@ -207,7 +208,7 @@ keeps : (b d : Block) → b ≡ d → Keeps b d
 keeps b d e = record { variables = ap (λ (x : Block). x.variables) (sym e); place = ap (λ (x : Block). x.stage) (sym e) }
 
 keeps-closed : (clause : Option (List ℕ)) (b d : Block) → closed clause b ≡ Ok d → Keeps b d
-keeps-closed clause b d e = by_test (nat_lt 16777216 (b.literals + size_of clause)) e
+keeps-closed clause b d e = by_test (nat_lt limits.literals (b.literals + size_of clause)) e
   where
     by_test : (t : Bool) → cond t (Err (Limit Literals)) (Ok (with_clause clause b)) ≡ Ok d → Keeps b d
     by_test true e = absurd (cc)
@@ -238,7 +239,7 @@ words-append (x ∷ xs) ys b = by_answer (after_number (number_in x b.variables)
     by_answer (Ok d) ih = ih d
     by_answer (Err e) ih = refl
 
--- the lines of the clauses, and those behind them
+-- the lines of the clauses, and those after them
 pub record Splits (rows : List (List (List ℕ))) (b d : Block) : Type 0 where
   pub body : List (List (List ℕ))
   pub tail : List (List (List ℕ))
@@ -279,7 +280,7 @@ splits-words row rows b x d e rest = record {
   same = rest.same;
 }
 
--- lines that are read among the clauses are those of clauses, and what may stand behind them
+-- lines that are read among the clauses are those of clauses, and what may stand after them
 pub splits : (rows : List (List (List ℕ))) (b d : Block) → AllByRecursion (λ row. is_passed row ≡ false) rows → b.stage ≡ stage.Clauses → after_rows rows b ≡ Ok d → Splits rows b d
 splits [] b d h q e = record { body = []; tail = []; last = b; halves = refl; ends = inl refl; reads = refl; same = ap ended (sym (ok_block b d e)) }
 splits ([] ∷ rows) b d h q e = absurd (cc (h.0))
@@ -335,7 +336,7 @@ number_rows (row ∷ rows) tail b h q =
         let k = keeps-words row b d e in
         ih d (subst (λ (v : ℕ). SayNumbers v (words_in rows)) (sym k.variables) (say-right b.variables row (words_in rows) h)) (k.place ∙ q)
 
--- what may stand behind the clauses leads to the same end
+-- what may stand after the clauses leads to the same end
 pub record TailLeads (rows : List (List (List ℕ))) (b : Block) : Type 0 where
   pub behind : Block
   pub reads : after_rows rows b ≡ Ok behind

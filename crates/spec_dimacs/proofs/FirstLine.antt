@@ -1,10 +1,10 @@
--- Reading line by line stops at the first line that is faulty, and nothing behind that line counts.
+-- Reading line by line stops at the first line that is faulty, and nothing after that line counts.
 use Rattle.std.proofs.Common.{◌≡◌, ◌⊎◌, ℕ, zero, suc, ◌+◌, ◌<◌, ◌≤◌, List, [], ◌∷◌, map, length, take, drop, get_or, Result, Ok, Err, refl, sym, ap, ◌∙◌, inl, inr, arith}
 use Rattle.std.proofs.lemmas.List.{length-map}
 use Rattle.spec_text.specs.Inputs.{lines_of, words_of}
 use Rattle.spec_dimacs.specs.Rows.{rows_of}
 
--- reading of lines, each a list of words, behind so many lines and from a state
+-- reading of lines, each a list of words, after so many lines and from a state
 abbrev pub Read : Type 0 → Type 0 → Type 0 → Type 0
 Read S T F = List (List (List ℕ)) → ℕ → S → Result T (ℕ × F)
 
@@ -42,7 +42,7 @@ at_least {S} {T} {F} read r (row ∷ rows) k s line fault e = by_step (λ t q. a
     by_step ih (inl on) = let low : suc k ≤ line = ih on.0 (sym (on.1 rows k) ∙ e) in omega arith
     by_step ih (inr off) = let same : suc k ≡ line = same-line (suc k) line off.0 fault (sym (off.1 rows k) ∙ e) in omega arith
 
--- where lines are left, the line of a fault is one of them or one behind them
+-- where lines are left, the line of a fault is one of them or one after them
 later : {S T F : Type 0} (read : Read S T F) → GoesByLines read → (rows : List (List (List ℕ))) (k : ℕ) (s : S) (line : ℕ) (fault : F) → 0 < length rows → read rows k s ≡ Err (line, fault) → k < line
 later read r [] k s line fault some e = absurd (omega arith)
 later {S} {T} {F} read r (row ∷ rows) k s line fault some e = by_step (r.step row s)

@@ -1,4 +1,4 @@
--- Nothing behind a faulty line of a formula counts.
+-- Nothing after a faulty line of a formula counts.
 use Rattle.std.proofs.Common.{◌≡◌, ◌⊎◌, ℕ, suc, ◌≤◌, max, List, Option, None, Result, Ok, Err, refl, ap, inl, inr, arith}
 use Rattle.mal_base.specs.Formulas.{Formulated}
 use Rattle.mal_base.specs.declared.block_fault.BlockFault.{BlockFault}

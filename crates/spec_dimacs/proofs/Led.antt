@@ -3,6 +3,7 @@ use Rattle.std.proofs.Common.{◌≡◌, ℕ, ◌≤◌, true, false, List, [], 
 use Rattle.std.specs.List.{list_all, AllByRecursion}
 use Rattle.std.proofs.lemmas.Bool.{le-leb}
 use Rattle.std.proofs.lemmas.List.{length-map}
+use Rattle.mal_base.specs.Limits.{limits}
 use Rattle.mal_base.specs.Formulas.{Formulated, literals_of, is_formula, is_clause_of}
 use Rattle.mal_base.proofs.Sorting.{and-both}
 use Rattle.spec_dimacs.specs.Rows.{is_passed}
@@ -14,8 +15,8 @@ use Rattle.spec_dimacs.proofs.Behind.{Leads, Splits, splits}
 use Rattle.spec_dimacs.proofs.Spelled.{Opens, opens, Ends, ends, formula_at, block_of-after, clauses_made}
 use Rattle.spec_dimacs.proofs.Laws.{clauses_within}
 
--- the lines behind a header of these numbers
-led-behind : (rest : List (List (List ℕ))) (v c : ℕ) (f : Formulated) (d : Block) → v ≤ 65536 → c ≤ 1048576 → AllByRecursion (λ row. is_passed row ≡ false) rest → after_rows rest (block_after v c [] []) ≡ Ok d → ended d ≡ Ok f → is_formula f ≡ true
+-- the lines after a header of these numbers
+led-behind : (rest : List (List (List ℕ))) (v c : ℕ) (f : Formulated) (d : Block) → v ≤ limits.variables → c ≤ limits.clauses → AllByRecursion (λ row. is_passed row ≡ false) rest → after_rows rest (block_after v c [] []) ≡ Ok d → ended d ≡ Ok f → is_formula f ≡ true
 unfolding formula_at
 led-behind rest v c f d low few counted reads ended_ok =
     let split : Splits rest (block_after v c [] []) d = splits rest (block_after v c [] []) d counted refl reads in
@@ -24,7 +25,7 @@ led-behind rest v c f d low few counted reads ended_ok =
     let end : Ends v c g.all g.left f = ends v c g.all g.left f few last in
     let count : length (map clause_of g.all) ≡ c = length-map g.all clause_of ∙ end.count in
     let forms : list_all (is_clause_of v) (map clause_of g.all) ≡ true = clauses_within v g.all (map clause_of g.all) g.within (clauses_made g.all) in
-    subst (λ (x : Formulated). is_formula x ≡ true) end.is (and-both _ _ (and-both _ _ (and-both _ _ (le-leb v 65536 low) (le-leb (length (map clause_of g.all)) 1048576 (omega arith))) (le-leb (literals_of (map clause_of g.all)) 16777216 g.few)) forms)
+    subst (λ (x : Formulated). is_formula x ≡ true) end.is (and-both _ _ (and-both _ _ (and-both _ _ (le-leb v limits.variables low) (le-leb (length (map clause_of g.all)) limits.clauses (omega arith))) (le-leb (literals_of (map clause_of g.all)) limits.literals g.few)) forms)
 
 -- lines of which none is passed over and that lead to a formula
 pub led_formula : (rows : List (List (List ℕ))) (f : Formulated) → AllByRecursion (λ row. is_passed row ≡ false) rows → Leads rows f → is_formula f ≡ true

@@ -6,6 +6,7 @@ use Rattle.std.proofs.lemmas.Bool.{leb-true, le-leb}
 use Rattle.std.proofs.lemmas.Bool.Decides.{nat_tests}
 use Rattle.std.proofs.lemmas.List.{length-map}
 use Rattle.std.proofs.lemmas.Slice.Eq.{bytes_eq-Decides}
+use Rattle.mal_base.specs.Limits.{limits}
 use Rattle.mal_base.specs.Formulas.{Formulated, literals_of, is_within}
 use Rattle.mal_base.specs.declared.limit_kind.LimitKind.TheVariants.{Variables, Clauses}
 use Rattle.mal_base.proofs.Sorting.{and-left, and-right, and-both}
@@ -27,14 +28,14 @@ pub record Opens (words : List (List ℕ)) (b : Block) : Type 0 where
   pub variables : ℕ
   pub declared : ℕ
   pub header : IsHeader words variables declared
-  pub few_variables : variables ≤ 65536
-  pub few_clauses : declared ≤ 1048576
+  pub few_variables : variables ≤ limits.variables
+  pub few_clauses : declared ≤ limits.clauses
   pub is : block_of variables declared ≡ b
 
 opens-limits : (p cnf v c : List ℕ) (b : Block) → p ≡ codes "p" → cnf ≡ codes "cnf" → is_numeral v ≡ true → is_numeral c ≡ true → within_limits (value_of v) (value_of c) ≡ Ok b → Opens (p ∷ cnf ∷ v ∷ c ∷ []) b
-opens-limits p cnf v c b h k m n e = by_tests (nat_lt 65536 (value_of v)) refl (nat_lt 1048576 (value_of c)) refl e
+opens-limits p cnf v c b h k m n e = by_tests (nat_lt limits.variables (value_of v)) refl (nat_lt limits.clauses (value_of c)) refl e
   where
-    by_tests : (s : Bool) → nat_lt 65536 (value_of v) ≡ s → (t : Bool) → nat_lt 1048576 (value_of c) ≡ t → cond s (Err (Limit Variables)) (cond t (Err (Limit Clauses)) (read_block (block_of (value_of v) (value_of c)))) ≡ Ok b → Opens (p ∷ cnf ∷ v ∷ c ∷ []) b
+    by_tests : (s : Bool) → nat_lt limits.variables (value_of v) ≡ s → (t : Bool) → nat_lt limits.clauses (value_of c) ≡ t → cond s (Err (Limit Variables)) (cond t (Err (Limit Clauses)) (read_block (block_of (value_of v) (value_of c)))) ≡ Ok b → Opens (p ∷ cnf ∷ v ∷ c ∷ []) b
     by_tests true q t r e = absurd (cc)
     by_tests false q true r e = absurd (cc)
     by_tests false q false r e = record {
@@ -68,10 +69,10 @@ opens (p ∷ cnf ∷ v ∷ c ∷ []) b e = by_tests (bytes_eq p (codes "p")) ref
     by_tests true q true r e = opens-counts p cnf v c b ((bytes_eq-Decides p (codes "p")).0 q) ((bytes_eq-Decides cnf (codes "cnf")).0 r) e
 
 -- a header within the limits opens a block
-header_opens : (words : List (List ℕ)) (variables declared : ℕ) → IsHeader words variables declared → variables ≤ 65536 → declared ≤ 1048576 → opened words ≡ Ok (block_of variables declared)
+header_opens : (words : List (List ℕ)) (variables declared : ℕ) → IsHeader words variables declared → variables ≤ limits.variables → declared ≤ limits.clauses → opened words ≡ Ok (block_of variables declared)
 header_opens words variables declared (v, c, e, said_v, said_c) low few =
-    let test_v : nat_lt 65536 variables ≡ false = grind (arith, nat_tests) in
-    let test_c : nat_lt 1048576 declared ≡ false = grind (arith, nat_tests) in
+    let test_v : nat_lt limits.variables variables ≡ false = grind (arith, nat_tests) in
+    let test_c : nat_lt limits.clauses declared ≡ false = grind (arith, nat_tests) in
     ap opened e
     ∙ ap₂ (λ (s t : Bool). cond (s && t) (within_limits (value_of v) (value_of c)) (Err BadHeader)) said_v.0 said_c.0
     ∙ ap₂ within_limits said_v.1 said_c.1
@@ -81,7 +82,7 @@ take-nothing : (n : ℕ) → take {A = Option (List ℕ)} n [] ≡ []
 take-nothing zero = refl
 take-nothing (suc n) = refl
 
--- the block behind a header has no list yet
+-- the block after a header has no list yet
 pub block_of-after : (v c : ℕ) → block_of v c ≡ block_after v c [] []
 block_of-after v c = ap (λ (cs : List (Option (List ℕ))). record { variables = v; declared = c; clauses = cs; found = 0; literals = 0; pending = []; stage = stage.Clauses }) (sym (take-nothing c))
 
@@ -99,7 +100,7 @@ the_formula : Formulated → Result Formulated BlockFault → Formulated
 the_formula f (Ok g) = g
 the_formula f (Err e) = f
 
-pub ends : (v c : ℕ) (lists : List (List ℕ)) (pending : List ℕ) (f : Formulated) → c ≤ 1048576 → ended (block_after v c lists pending) ≡ Ok f → Ends v c lists pending f
+pub ends : (v c : ℕ) (lists : List (List ℕ)) (pending : List ℕ) (f : Formulated) → c ≤ limits.clauses → ended (block_after v c lists pending) ≡ Ok f → Ends v c lists pending f
 unfolding formula_at the_formula
 ends v c lists pending f few e = by_test (min (length lists) (2 ^ 64 - 1) == c) refl pending e
   where
@@ -112,7 +113,7 @@ ends v c lists pending f few e = by_test (min (length lists) (2 ^ 64 - 1) == c) 
         let whole : take c (map clause_of lists) ≡ map clause_of lists = take_all c (map clause_of lists) (omega (arith, length-map lists clause_of)) in
         record { none = refl; count = all; is = ap (λ (cs : List (Option (List ℕ))). record { variables = v; clauses = cs }) (sym whole) ∙ ap (the_formula f) e }
 
-lists_end : (v : ℕ) (lists : List (List ℕ)) → length lists ≤ 1048576 → ended (block_after v (length lists) lists []) ≡ Ok (formula_at v lists)
+lists_end : (v : ℕ) (lists : List (List ℕ)) → length lists ≤ limits.clauses → ended (block_after v (length lists) lists []) ≡ Ok (formula_at v lists)
 unfolding formula_at
 lists_end v lists few =
     let count : min (length lists) (2 ^ 64 - 1) ≡ length lists = omega arith in
@@ -136,7 +137,7 @@ clauses_unique (l ∷ ls) [] h = absurd h
 clauses_unique (l ∷ ls) (c ∷ cs) h = ap₂ (λ (x : Option (List ℕ)) (xs : List (Option (List ℕ))). x ∷ xs) (clause_of-unique l c h.0) (clauses_unique ls cs h.1)
 
 -- a text of which a header and lines are read to the end of a formula spells it
-spelled-parts : (text : List ℕ) (header : List (List ℕ)) (rest : List (List (List ℕ))) (v c : ℕ) (f : Formulated) (d : Block) → counted_rows text ≡ header ∷ rest → IsHeader header v c → v ≤ 65536 → c ≤ 1048576 → AllByRecursion (λ row. is_passed row ≡ false) rest → after_rows rest (block_after v c [] []) ≡ Ok d → ended d ≡ Ok f → Spells text f
+spelled-parts : (text : List ℕ) (header : List (List ℕ)) (rest : List (List (List ℕ))) (v c : ℕ) (f : Formulated) (d : Block) → counted_rows text ≡ header ∷ rest → IsHeader header v c → v ≤ limits.variables → c ≤ limits.clauses → AllByRecursion (λ row. is_passed row ≡ false) rest → after_rows rest (block_after v c [] []) ≡ Ok d → ended d ≡ Ok f → Spells text f
 unfolding formula_at
 spelled-parts text header rest v c f d rows opens low few counted reads ended_ok =
     let split : Splits rest (block_after v c [] []) d = splits rest (block_after v c [] []) d counted refl reads in
@@ -155,7 +156,7 @@ spelled-parts text header rest v c f d rows opens low few counted reads ended_ok
       within = g.within;
       ends = split.ends;
       clauses = clauses_made g.all;
-      limits = and-both _ _ (and-both _ _ (le-leb v 65536 low) (le-leb (length (map clause_of g.all)) 1048576 (omega arith))) (le-leb (literals_of (map clause_of g.all)) 16777216 g.few);
+      limits = and-both _ _ (and-both _ _ (le-leb v limits.variables low) (le-leb (length (map clause_of g.all)) limits.clauses (omega arith))) (le-leb (literals_of (map clause_of g.all)) limits.literals g.few);
     })
 
 pub read_is_spelled : (text : List ℕ) (f : Formulated) → read_text text ≡ Ok f → Spells text f
@@ -168,7 +169,7 @@ read_is_spelled text f e =
     (ap (after_rows lead.others) (sym same) ∙ lead.rest.reads) lead.rest.ends
 
 -- the lines of a spelled text lead to its formula
-spelled-leads : (v : ℕ) (lists : List (List ℕ)) (header : List (List ℕ)) (body tail : List (List (List ℕ))) → IsHeader header v (length lists) → AreClosed v body lists → list_all (is_within v) lists ≡ true → IsTail tail → v ≤ 65536 → length lists ≤ 1048576 → literals_of (map clause_of lists) ≤ 16777216 → Leads (header ∷ (body ++ tail)) (formula_at v lists)
+spelled-leads : (v : ℕ) (lists : List (List ℕ)) (header : List (List ℕ)) (body tail : List (List (List ℕ))) → IsHeader header v (length lists) → AreClosed v body lists → list_all (is_within v) lists ≡ true → IsTail tail → v ≤ limits.variables → length lists ≤ limits.clauses → literals_of (map clause_of lists) ≤ limits.literals → Leads (header ∷ (body ++ tail)) (formula_at v lists)
 spelled-leads v lists header body tail opens closed within ends low few literals =
     let first : Block = block_after v (length lists) [] [] in
     let last : Block = block_after v (length lists) lists [] in
@@ -194,9 +195,9 @@ spelled_is_read text f is =
     let cs : f.clauses ≡ map clause_of is.lists = clauses_unique is.lists f.clauses is.clauses in
     let count : length f.clauses ≡ length is.lists = ap length cs ∙ length-map is.lists clause_of in
     let same : formula_at f.variables is.lists ≡ f = ap (λ (xs : List (Option (List ℕ))). record { variables = f.variables; clauses = xs }) (sym cs) in
-    let low : f.variables ≤ 65536 = leb-true f.variables 65536 (and-left _ _ (and-left _ _ is.limits)) in
-    let few : length f.clauses ≤ 1048576 = leb-true (length f.clauses) 1048576 (and-right (nat_le f.variables 65536) _ (and-left _ _ is.limits)) in
-    let literals : literals_of f.clauses ≤ 16777216 = leb-true (literals_of f.clauses) 16777216 (and-right (nat_le f.variables 65536 && nat_le (length f.clauses) 1048576) _ is.limits) in
+    let low : f.variables ≤ limits.variables = leb-true f.variables limits.variables (and-left _ _ (and-left _ _ is.limits)) in
+    let few : length f.clauses ≤ limits.clauses = leb-true (length f.clauses) limits.clauses (and-right (nat_le f.variables limits.variables) _ (and-left _ _ is.limits)) in
+    let literals : literals_of f.clauses ≤ limits.literals = leb-true (literals_of f.clauses) limits.literals (and-right (nat_le f.variables limits.variables && nat_le (length f.clauses) limits.clauses) _ is.limits) in
     let leads : Leads (is.header ∷ (is.body ++ is.tail)) (formula_at f.variables is.lists) = spelled-leads f.variables is.lists is.header is.body is.tail
-    (subst (IsHeader is.header f.variables) count is.opens) is.closed is.within is.ends low (omega arith) (subst (λ (xs : List (Option (List ℕ))). literals_of xs ≤ 16777216) cs literals) in
+    (subst (IsHeader is.header f.variables) count is.opens) is.closed is.within is.ends low (omega arith) (subst (λ (xs : List (Option (List ℕ))). literals_of xs ≤ limits.literals) cs literals) in
     leads_whole (rows_of text) 0 f (subst (λ (rs : List (List (List ℕ))). Leads rs f) (sym is.rows) (subst (Leads (is.header ∷ (is.body ++ is.tail))) same leads))

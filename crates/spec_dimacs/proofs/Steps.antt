@@ -1,4 +1,4 @@
--- A block behind closed lists of literals, and what the words of its lines make of it.
+-- A block after closed lists of literals, and what the words of its lines make of it.
 use Rattle.std.proofs.Common.{◌≡◌, ◌≢◌, ℕ, zero, suc, ◌+◌, ◌-◌, ◌^◌, ◌<◌, ◌≤◌, min, Bool, true, false, cond, ◌&&◌, nat_lt, nat_le, ◌/◌, List, [], ◌∷◌, ◌++◌, map, flat_map, length, take, drop, get_or, ℤ, pos, negsuc, Option, Result, Ok, Err, refl, sym, ap, ◌∙◌, subst, arith, append_assoc, append-nil, take_all}
 use Rattle.std.specs.List.{list_all}
 use Rattle.std.proofs.lemmas.Bool.{ltb-true, leb-true, le-leb}
@@ -7,6 +7,7 @@ use Rattle.std.proofs.lemmas.List.{take-append-le, length-take-le, map-append, l
 use Rattle.std.proofs.lemmas.List.Concat.{flat_map-append}
 use Rattle.std.proofs.lemmas.List.Folds.{list_all-append}
 use Rattle.std.proofs.lemmas.List.Sums.{sum_by-append, sum_by-cons}
+use Rattle.mal_base.specs.Limits.{limits}
 use Rattle.mal_base.specs.Literals.{literal}
 use Rattle.mal_base.specs.Formulas.{size_of, literals_of, is_within}
 use Rattle.mal_base.specs.declared.limit_kind.LimitKind.TheVariants.{Literals}
@@ -25,7 +26,7 @@ use Rattle.spec_dimacs.proofs.Numbers.{number_bound, number_of-positive, number_
 abbrev pub block : ℕ → ℕ → List (Option (List ℕ)) → ℕ → ℕ → List ℕ → Block
 block v c clauses found literals pending = record { variables = v; declared = c; clauses = clauses; found = found; literals = literals; pending = pending; stage = stage.Clauses }
 
--- the block behind closed lists of literals, and literals that wait for a 0
+-- the block after closed lists of literals, and literals that wait for a 0
 abbrev pub block_after : ℕ → ℕ → List (List ℕ) → List ℕ → Block
 block_after v c lists pending = block v c (take c (map clause_of lists)) (min (length lists) (2 ^ 64 - 1)) (literals_of (map clause_of lists)) pending
 
@@ -64,7 +65,7 @@ closed_block v c lists pending =
     (omega (arith, length-append lists (pending ∷ [])))
     (literals-grow lists pending)
 
--- what is said by closed lists of literals, and literals behind them
+-- what is said by closed lists of literals, and literals after them
 abbrev pub said : List (List ℕ) → List ℕ → List NumberWord
 said lists pending = map (λ z. Number z) (flat_map closed_numbers lists ++ map number_of pending)
 
@@ -83,14 +84,14 @@ said-closed lists pending =
     ∙ sym (append_assoc (flat_map closed_numbers lists) (map number_of pending) (pos 0 ∷ [])))
     ∙ map-append (λ z. Number z) (flat_map closed_numbers lists ++ map number_of pending) (pos 0 ∷ [])
 
--- what words have made of a block: more closed lists, which with the literals behind them say what the words say
+-- what words have made of a block: more closed lists, which with the literals after them say what the words say
 pub record Gathers (v c : ℕ) (lists : List (List ℕ)) (pending : List ℕ) (words : List (List ℕ)) (d : Block) : Type 0 where
   pub all : List (List ℕ)
   pub left : List ℕ
   pub is : d ≡ block_after v c all left
   pub says : said lists pending ++ map (λ w. number_in w v) words ≡ said all left
   pub within : list_all (is_within v) all ≡ true
-  pub few : literals_of (map clause_of all) ≤ 16777216
+  pub few : literals_of (map clause_of all) ≤ limits.literals
 
 -- a word more
 gathers-word : (v c : ℕ) (lists others : List (List ℕ)) (pending waiting : List ℕ) (w : List ℕ) (ws : List (List ℕ)) (d : Block) (x : NumberWord) → number_in w v ≡ x → said others waiting ≡ said lists pending ++ x ∷ [] → Gathers v c others waiting ws d → Gathers v c lists pending (w ∷ ws) d
@@ -115,31 +116,31 @@ within-more v pending lit h low high =
 lists-more : (v : ℕ) (lists : List (List ℕ)) (pending : List ℕ) → list_all (is_within v) lists ≡ true → is_within v pending ≡ true → list_all (is_within v) (lists ++ pending ∷ []) ≡ true
 lists-more v lists pending h k = list_all-append (is_within v) lists (pending ∷ []) ∙ and-both _ _ h (and-both _ _ k refl)
 
--- what the words behind a word make of the block behind it
+-- what the words after a word make of the block after it
 Rest : ℕ → ℕ → List (List ℕ) → Block → Type 0
-Rest v c ws d = (lists : List (List ℕ)) (pending : List ℕ) → list_all (is_within v) lists ≡ true → is_within v pending ≡ true → literals_of (map clause_of lists) ≤ 16777216 → after_words ws (block_after v c lists pending) ≡ Ok d → Gathers v c lists pending ws d
+Rest v c ws d = (lists : List (List ℕ)) (pending : List ℕ) → list_all (is_within v) lists ≡ true → is_within v pending ≡ true → literals_of (map clause_of lists) ≤ limits.literals → after_words ws (block_after v c lists pending) ≡ Ok d → Gathers v c lists pending ws d
 
-gathers-literal : (v c : ℕ) (lists : List (List ℕ)) (pending : List ℕ) (w : List ℕ) (ws : List (List ℕ)) (d : Block) (lit : ℕ) (z : ℤ) → number_in w v ≡ Number z → number_of lit ≡ z → 1 ≤ lit / 2 → lit / 2 ≤ v → list_all (is_within v) lists ≡ true → is_within v pending ≡ true → literals_of (map clause_of lists) ≤ 16777216 → Rest v c ws d → after_words ws (block_after v c lists (pending ++ lit ∷ [])) ≡ Ok d → Gathers v c lists pending (w ∷ ws) d
+gathers-literal : (v c : ℕ) (lists : List (List ℕ)) (pending : List ℕ) (w : List ℕ) (ws : List (List ℕ)) (d : Block) (lit : ℕ) (z : ℤ) → number_in w v ≡ Number z → number_of lit ≡ z → 1 ≤ lit / 2 → lit / 2 ≤ v → list_all (is_within v) lists ≡ true → is_within v pending ≡ true → literals_of (map clause_of lists) ≤ limits.literals → Rest v c ws d → after_words ws (block_after v c lists (pending ++ lit ∷ [])) ≡ Ok d → Gathers v c lists pending (w ∷ ws) d
 unfolding Rest
 gathers-literal v c lists pending w ws d lit z q n low high h k few rest e =
     gathers-word v c lists lists pending (pending ++ lit ∷ []) w ws d (Number z) q
     (said-literal lists pending lit ∙ ap (λ (y : ℤ). said lists pending ++ Number y ∷ []) n)
     (rest lists (pending ++ lit ∷ []) h (within-more v pending lit k low high) few e)
 
-gathers-closed : (v c : ℕ) (lists : List (List ℕ)) (pending : List ℕ) (w : List ℕ) (ws : List (List ℕ)) (d : Block) → number_in w v ≡ Number (pos 0) → list_all (is_within v) lists ≡ true → is_within v pending ≡ true → literals_of (map clause_of lists) ≤ 16777216 → Rest v c ws d → (closed (clause_of pending) (block_after v c lists pending) >>= after_words ws) ≡ Ok d → Gathers v c lists pending (w ∷ ws) d
+gathers-closed : (v c : ℕ) (lists : List (List ℕ)) (pending : List ℕ) (w : List ℕ) (ws : List (List ℕ)) (d : Block) → number_in w v ≡ Number (pos 0) → list_all (is_within v) lists ≡ true → is_within v pending ≡ true → literals_of (map clause_of lists) ≤ limits.literals → Rest v c ws d → (closed (clause_of pending) (block_after v c lists pending) >>= after_words ws) ≡ Ok d → Gathers v c lists pending (w ∷ ws) d
 unfolding Rest
-gathers-closed v c lists pending w ws d q h k few rest e = by_limit (nat_lt 16777216 (literals_of (map clause_of lists) + size_of (clause_of pending))) refl e
+gathers-closed v c lists pending w ws d q h k few rest e = by_limit (nat_lt limits.literals (literals_of (map clause_of lists) + size_of (clause_of pending))) refl e
   where
-    by_limit : (t : Bool) → nat_lt 16777216 (literals_of (map clause_of lists) + size_of (clause_of pending)) ≡ t → (cond t (Err (Limit Literals)) (Ok (with_clause (clause_of pending) (block_after v c lists pending))) >>= after_words ws) ≡ Ok d → Gathers v c lists pending (w ∷ ws) d
+    by_limit : (t : Bool) → nat_lt limits.literals (literals_of (map clause_of lists) + size_of (clause_of pending)) ≡ t → (cond t (Err (Limit Literals)) (Ok (with_clause (clause_of pending) (block_after v c lists pending))) >>= after_words ws) ≡ Ok d → Gathers v c lists pending (w ∷ ws) d
     by_limit true t e = absurd (cc)
     by_limit false t e =
-        let low : literals_of (map clause_of lists) + size_of (clause_of pending) ≤ 16777216 = grind (arith, nat_tests) in
+        let low : literals_of (map clause_of lists) + size_of (clause_of pending) ≤ limits.literals = grind (arith, nat_tests) in
         let grown = literals-grow lists pending in
         gathers-word v c lists (lists ++ pending ∷ []) pending [] w ws d (Number (pos 0)) q (said-closed lists pending)
-        (rest (lists ++ pending ∷ []) [] (lists-more v lists pending h k) refl (subst (λ (n : ℕ). n ≤ 16777216) grown low)
+        (rest (lists ++ pending ∷ []) [] (lists-more v lists pending h k) refl (subst (λ (n : ℕ). n ≤ limits.literals) grown low)
         (ap (after_words ws) (sym (closed_block v c lists pending)) ∙ e))
 
-gathers-cases : (v c : ℕ) (lists : List (List ℕ)) (pending : List ℕ) (w : List ℕ) (ws : List (List ℕ)) (d : Block) (x : NumberWord) → number_in w v ≡ x → list_all (is_within v) lists ≡ true → is_within v pending ≡ true → literals_of (map clause_of lists) ≤ 16777216 → Rest v c ws d → (after_number x (block_after v c lists pending) >>= after_words ws) ≡ Ok d → Gathers v c lists pending (w ∷ ws) d
+gathers-cases : (v c : ℕ) (lists : List (List ℕ)) (pending : List ℕ) (w : List ℕ) (ws : List (List ℕ)) (d : Block) (x : NumberWord) → number_in w v ≡ x → list_all (is_within v) lists ≡ true → is_within v pending ≡ true → literals_of (map clause_of lists) ≤ limits.literals → Rest v c ws d → (after_number x (block_after v c lists pending) >>= after_words ws) ≡ Ok d → Gathers v c lists pending (w ∷ ws) d
 gathers-cases v c lists pending w ws d NotANumber q h k few rest e = absurd (cc)
 gathers-cases v c lists pending w ws d TooLarge q h k few rest e = absurd (cc)
 gathers-cases v c lists pending w ws d (Number (pos zero)) q h k few rest e = gathers-closed v c lists pending w ws d q h k few rest e
@@ -163,12 +164,12 @@ unfolding the_block
 ok_block b d e = ap (the_block b) e
 
 -- words that are read make of a block what they say
-pub gathers : (v c : ℕ) (words : List (List ℕ)) (d : Block) (lists : List (List ℕ)) (pending : List ℕ) → list_all (is_within v) lists ≡ true → is_within v pending ≡ true → literals_of (map clause_of lists) ≤ 16777216 → after_words words (block_after v c lists pending) ≡ Ok d → Gathers v c lists pending words d
+pub gathers : (v c : ℕ) (words : List (List ℕ)) (d : Block) (lists : List (List ℕ)) (pending : List ℕ) → list_all (is_within v) lists ≡ true → is_within v pending ≡ true → literals_of (map clause_of lists) ≤ limits.literals → after_words words (block_after v c lists pending) ≡ Ok d → Gathers v c lists pending words d
 unfolding Rest
 gathers v c [] d lists pending h k few e = record { all = lists; left = pending; is = sym (ok_block _ d e); says = append-nil (said lists pending); within = h; few = few }
 gathers v c (w ∷ ws) d lists pending h k few e = gathers-cases v c lists pending w ws d (number_in w v) refl h k few (λ ls p. gathers v c ws d ls p) e
 
--- the first of some words and the words behind it, as they say what is said
+-- the first of some words and the words after it, as they say what is said
 first_said : (x y : NumberWord) (xs ys : List NumberWord) → x ∷ xs ≡ y ∷ ys → x ≡ y
 first_said x y xs ys e = ap (λ (zs : List NumberWord). get_or zs 0 NotANumber) e
 
@@ -193,10 +194,10 @@ code_read v c lists pending lit low =
     ∙ ap (λ (code : ℕ). read_block (block_after v c lists (pending ++ code ∷ []))) (code_of-number_of lit low)
 
 -- closing, where the literals are few
-closed_read : (v c : ℕ) (lists : List (List ℕ)) (pending : List ℕ) → literals_of (map clause_of (lists ++ pending ∷ [])) ≤ 16777216 → closed (clause_of pending) (block_after v c lists pending) ≡ Ok (block_after v c (lists ++ pending ∷ []) [])
+closed_read : (v c : ℕ) (lists : List (List ℕ)) (pending : List ℕ) → literals_of (map clause_of (lists ++ pending ∷ [])) ≤ limits.literals → closed (clause_of pending) (block_after v c lists pending) ≡ Ok (block_after v c (lists ++ pending ∷ []) [])
 closed_read v c lists pending few =
-    let low : literals_of (map clause_of lists) + size_of (clause_of pending) ≤ 16777216 = rw (literals-grow lists pending) few in
-    let test : nat_lt 16777216 (literals_of (map clause_of lists) + size_of (clause_of pending)) ≡ false = grind (arith, nat_tests) in
+    let low : literals_of (map clause_of lists) + size_of (clause_of pending) ≤ limits.literals = rw (literals-grow lists pending) few in
+    let test : nat_lt limits.literals (literals_of (map clause_of lists) + size_of (clause_of pending)) ≡ false = grind (arith, nat_tests) in
     ap (λ (t : Bool). the_answer t) test ∙ ap read_block (closed_block v c lists pending)
   where
     the_answer : Bool → Result Block BlockFault
@@ -210,7 +211,7 @@ says-list : (lits : List ℕ) (lists : List (List ℕ)) → map (λ z. Number z)
 says-list lits lists = ap (map (λ z. Number z)) (append_assoc (map number_of lits) (pos 0 ∷ []) (flat_map closed_numbers lists))
 
 -- fewer lists have fewer literals
-fewer : (lists others : List (List ℕ)) → literals_of (map clause_of (lists ++ others)) ≤ 16777216 → literals_of (map clause_of lists) ≤ 16777216
+fewer : (lists others : List (List ℕ)) → literals_of (map clause_of (lists ++ others)) ≤ limits.literals → literals_of (map clause_of lists) ≤ limits.literals
 fewer lists others few =
     let sum : literals_of (map clause_of (lists ++ others)) ≡ literals_of (map clause_of lists) + literals_of (map clause_of others) = ap literals_of (map-append clause_of lists others) ∙ sum_by-append size_of (map clause_of lists) (map clause_of others) in
     omega arith
@@ -220,36 +221,36 @@ low_code v lit lits h = let low : 1 ≤ lit / 2 = leb-true 1 (lit / 2) (and-left
 
 -- what words make of a block, where they say the rest of a list and more closed lists
 Fills : ℕ → ℕ → List (List ℕ) → Type 0
-Fills v c words = (lists : List (List ℕ)) (pending rest : List ℕ) (others : List (List ℕ)) → is_within v rest ≡ true → list_all (is_within v) others ≡ true → map (λ w. number_in w v) words ≡ says_behind rest others → literals_of (map clause_of (lists ++ (pending ++ rest) ∷ others)) ≤ 16777216 → after_words words (block_after v c lists pending) ≡ Ok (block_after v c (lists ++ (pending ++ rest) ∷ others) [])
+Fills v c words = (lists : List (List ℕ)) (pending rest : List ℕ) (others : List (List ℕ)) → is_within v rest ≡ true → list_all (is_within v) others ≡ true → map (λ w. number_in w v) words ≡ says_behind rest others → literals_of (map clause_of (lists ++ (pending ++ rest) ∷ others)) ≤ limits.literals → after_words words (block_after v c lists pending) ≡ Ok (block_after v c (lists ++ (pending ++ rest) ∷ others) [])
 
-fills-literal : (v c : ℕ) (w : List ℕ) (ws : List (List ℕ)) → Fills v c ws → (lists : List (List ℕ)) (pending : List ℕ) (lit : ℕ) (rest : List ℕ) (others : List (List ℕ)) → is_within v (lit ∷ rest) ≡ true → list_all (is_within v) others ≡ true → number_in w v ∷ map (λ u. number_in u v) ws ≡ says_behind (lit ∷ rest) others → literals_of (map clause_of (lists ++ (pending ++ lit ∷ rest) ∷ others)) ≤ 16777216 → (after_number (number_in w v) (block_after v c lists pending) >>= after_words ws) ≡ Ok (block_after v c (lists ++ (pending ++ lit ∷ rest) ∷ others) [])
+fills-literal : (v c : ℕ) (w : List ℕ) (ws : List (List ℕ)) → Fills v c ws → (lists : List (List ℕ)) (pending : List ℕ) (lit : ℕ) (rest : List ℕ) (others : List (List ℕ)) → is_within v (lit ∷ rest) ≡ true → list_all (is_within v) others ≡ true → number_in w v ∷ map (λ u. number_in u v) ws ≡ says_behind (lit ∷ rest) others → literals_of (map clause_of (lists ++ (pending ++ lit ∷ rest) ∷ others)) ≤ limits.literals → (after_number (number_in w v) (block_after v c lists pending) >>= after_words ws) ≡ Ok (block_after v c (lists ++ (pending ++ lit ∷ rest) ∷ others) [])
 unfolding Fills
 fills-literal v c w ws ih lists pending lit rest others h k e few =
     let longer : (pending ++ lit ∷ []) ++ rest ≡ pending ++ lit ∷ rest = append_assoc pending (lit ∷ []) rest in
     ap (λ (x : NumberWord). after_number x (block_after v c lists pending) >>= after_words ws) (first_said _ _ _ _ e)
     ∙ ap (λ (r : Result Block BlockFault). r >>= after_words ws) (code_read v c lists pending lit (low_code v lit rest h))
-    ∙ ih lists (pending ++ lit ∷ []) rest others (and-right _ _ h) k (rest_said _ _ _ _ e) (subst (λ (l : List ℕ). literals_of (map clause_of (lists ++ l ∷ others)) ≤ 16777216) (sym longer) few)
+    ∙ ih lists (pending ++ lit ∷ []) rest others (and-right _ _ h) k (rest_said _ _ _ _ e) (subst (λ (l : List ℕ). literals_of (map clause_of (lists ++ l ∷ others)) ≤ limits.literals) (sym longer) few)
     ∙ ap (λ (l : List ℕ). read_block (block_after v c (lists ++ l ∷ others) [])) longer
 
 nothing_said : (words : List (List ℕ)) (v : ℕ) → map (λ w. number_in w v) words ≡ [] → words ≡ []
 nothing_said [] v e = refl
 nothing_said (w ∷ ws) v e = absurd (cc)
 
-fills-closed : (v c : ℕ) (w : List ℕ) (ws : List (List ℕ)) → Fills v c ws → (lists : List (List ℕ)) (pending : List ℕ) (others : List (List ℕ)) → list_all (is_within v) others ≡ true → number_in w v ∷ map (λ u. number_in u v) ws ≡ says_behind [] others → literals_of (map clause_of (lists ++ pending ∷ others)) ≤ 16777216 → (after_number (number_in w v) (block_after v c lists pending) >>= after_words ws) ≡ Ok (block_after v c (lists ++ pending ∷ others) [])
+fills-closed : (v c : ℕ) (w : List ℕ) (ws : List (List ℕ)) → Fills v c ws → (lists : List (List ℕ)) (pending : List ℕ) (others : List (List ℕ)) → list_all (is_within v) others ≡ true → number_in w v ∷ map (λ u. number_in u v) ws ≡ says_behind [] others → literals_of (map clause_of (lists ++ pending ∷ others)) ≤ limits.literals → (after_number (number_in w v) (block_after v c lists pending) >>= after_words ws) ≡ Ok (block_after v c (lists ++ pending ∷ others) [])
 unfolding Fills
 fills-closed v c w ws ih lists pending others k e few =
     ap (λ (x : NumberWord). after_number x (block_after v c lists pending) >>= after_words ws) (first_said _ _ _ _ e)
-    ∙ ap (λ (r : Result Block BlockFault). r >>= after_words ws) (closed_read v c lists pending (fewer (lists ++ pending ∷ []) others (subst (λ (ls : List (List ℕ)). literals_of (map clause_of ls) ≤ 16777216) (sym longer) few)))
+    ∙ ap (λ (r : Result Block BlockFault). r >>= after_words ws) (closed_read v c lists pending (fewer (lists ++ pending ∷ []) others (subst (λ (ls : List (List ℕ)). literals_of (map clause_of ls) ≤ limits.literals) (sym longer) few)))
     ∙ by_others others k (rest_said _ _ _ _ e) few
   where
     longer : (lists ++ pending ∷ []) ++ others ≡ lists ++ pending ∷ others
     longer = append_assoc lists (pending ∷ []) others
 
-    by_others : (os : List (List ℕ)) → list_all (is_within v) os ≡ true → map (λ u. number_in u v) ws ≡ map (λ z. Number z) (flat_map closed_numbers os) → literals_of (map clause_of (lists ++ pending ∷ os)) ≤ 16777216 → after_words ws (block_after v c (lists ++ pending ∷ []) []) ≡ Ok (block_after v c (lists ++ pending ∷ os) [])
+    by_others : (os : List (List ℕ)) → list_all (is_within v) os ≡ true → map (λ u. number_in u v) ws ≡ map (λ z. Number z) (flat_map closed_numbers os) → literals_of (map clause_of (lists ++ pending ∷ os)) ≤ limits.literals → after_words ws (block_after v c (lists ++ pending ∷ []) []) ≡ Ok (block_after v c (lists ++ pending ∷ os) [])
     by_others [] k e few = ap (λ (us : List (List ℕ)). after_words us (block_after v c (lists ++ pending ∷ []) [])) (nothing_said ws v e)
     by_others (o ∷ os) k e few =
         let more : (lists ++ pending ∷ []) ++ o ∷ os ≡ lists ++ pending ∷ o ∷ os = append_assoc lists (pending ∷ []) (o ∷ os) in
-        ih (lists ++ pending ∷ []) [] o os (and-left _ _ k) (and-right _ _ k) (e ∙ says-list o os) (subst (λ (ls : List (List ℕ)). literals_of (map clause_of ls) ≤ 16777216) (sym more) few)
+        ih (lists ++ pending ∷ []) [] o os (and-left _ _ k) (and-right _ _ k) (e ∙ says-list o os) (subst (λ (ls : List (List ℕ)). literals_of (map clause_of ls) ≤ limits.literals) (sym more) few)
         ∙ ap (λ (ls : List (List ℕ)). read_block (block_after v c ls [])) more
 
 fills : (v c : ℕ) (words : List (List ℕ)) → Fills v c words
@@ -258,12 +259,12 @@ fills v c [] lists pending [] others h k e few = absurd (cc)
 fills v c [] lists pending (l ∷ ls) others h k e few = absurd (cc)
 fills v c (w ∷ ws) lists pending [] others h k e few =
     let whole : pending ++ [] ≡ pending = append-nil pending in
-    fills-closed v c w ws (fills v c ws) lists pending others k e (subst (λ (l : List ℕ). literals_of (map clause_of (lists ++ l ∷ others)) ≤ 16777216) whole few)
+    fills-closed v c w ws (fills v c ws) lists pending others k e (subst (λ (l : List ℕ). literals_of (map clause_of (lists ++ l ∷ others)) ≤ limits.literals) whole few)
     ∙ ap (λ (l : List ℕ). read_block (block_after v c (lists ++ l ∷ others) [])) (sym whole)
 fills v c (w ∷ ws) lists pending (l ∷ ls) others h k e few = fills-literal v c w ws (fills v c ws) lists pending l ls others h k e few
 
 -- words that say closed lists are read, and the lists are closed
-pub filled : (v c : ℕ) (words : List (List ℕ)) (lists : List (List ℕ)) → list_all (is_within v) lists ≡ true → map (λ w. number_in w v) words ≡ map (λ z. Number z) (flat_map closed_numbers lists) → literals_of (map clause_of lists) ≤ 16777216 → after_words words (block_after v c [] []) ≡ Ok (block_after v c lists [])
+pub filled : (v c : ℕ) (words : List (List ℕ)) (lists : List (List ℕ)) → list_all (is_within v) lists ≡ true → map (λ w. number_in w v) words ≡ map (λ z. Number z) (flat_map closed_numbers lists) → literals_of (map clause_of lists) ≤ limits.literals → after_words words (block_after v c [] []) ≡ Ok (block_after v c lists [])
 unfolding Fills
 filled v c words [] h e few = ap (λ (us : List (List ℕ)). after_words us (block_after v c [] [])) (nothing_said words v e)
 filled v c words (l ∷ ls) h e few = fills v c words [] [] l ls (and-left _ _ h) (and-right _ _ h) (e ∙ says-list l ls) few

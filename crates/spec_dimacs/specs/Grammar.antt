@@ -27,11 +27,11 @@ words_in rows = flat_map (λ row. row) rows
 abbrev pub AreClosed : ℕ → List (List (List ℕ)) → List (List ℕ) → Type 0
 AreClosed variables rows lists = map (λ word. number_in word variables) (words_in rows) ≡ map (λ z. Number z) (flat_map closed_numbers lists)
 
--- what may stand behind the clauses: nothing, or a line `%` and then nothing or a line `0`
+-- what may stand after the clauses: nothing, or a line `%` and then nothing or a line `0`
 abbrev pub IsTail : List (List (List ℕ)) → Type 0
 IsTail rows = (rows ≡ []) ⊎ (rows ≡ (codes "%" ∷ []) ∷ []) ⊎ (rows ≡ (codes "%" ∷ []) ∷ (codes "0" ∷ []) ∷ [])
 
--- a text spells a formula: its lines that count are a header, the lines of the clauses, and what may stand behind them.
+-- a text spells a formula: its lines that count are a header, the lines of the clauses, and what may stand after them.
 -- The clauses are as many as the header says and have variables that it declares; the formula has those literals once
 -- each, none in the place of a tautology, and is within the limits
 pub record Spells (text : List ℕ) (formula : Formulated) : Type 0 where

@@ -33,7 +33,7 @@ WrittenIsRead = (formula : Formulated) → is_formula formula ≡ true → read_
 abbrev pub LiteralsMakeOne : Type 0
 LiteralsMakeOne = (lits : List ℕ) (clause : Option (List ℕ)) → IsClauseOf lits clause ↔ (clause ≡ clause_of lits)
 
--- nothing behind a faulty line counts: where the first fault is on a line before the last, each text that begins with
+-- nothing after a faulty line counts: where the first fault is on a line before the last, each text that begins with
 -- the same lines, up to this one, has the same first fault
 abbrev pub FaultIsFirst : Type 0
 FaultIsFirst = (text other : List ℕ) (line : ℕ) (fault : BlockFault) → read_text text ≡ Err (line, fault) → line < length (lines_of text) → take line (lines_of other) ≡ take line (lines_of text) → read_text other ≡ Err (line, fault)

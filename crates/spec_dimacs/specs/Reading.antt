@@ -1,5 +1,6 @@
 -- Reading DIMACS CNF line by line: the formula, or the first fault with its line.
 use Rattle.std.specs.Prelude.{ℕ, zero, suc, ◌+◌, ◌^◌, ◌-◌, min, max, true, false, ◌&&◌, List, [], ◌∷◌, ◌++◌, length, codes, bytes_eq, nat_lt, ◌==◌, if◌then◌else◌, ℤ, pos, negsuc, Option, Some, None, Result, Ok, Err}
+use Rattle.mal_base.specs.Limits.{limits}
 use Rattle.mal_base.specs.Literals.{literal}
 use Rattle.mal_base.specs.Formulas.{Formulated, size_of}
 use Rattle.mal_base.specs.declared.limit_kind.LimitKind.TheVariants.{Variables, Clauses, Literals}
@@ -14,7 +15,7 @@ use Rattle.spec_dimacs.specs.Merged.{clause_of}
 
 -- a block of which some lines are read: the variables and the number of clauses that its header declares, the closed
 -- clauses (the first ones, at most as many as are declared), the number of closed clauses, the number of their
--- literals, the literals behind the last 0, and where the reader is
+-- literals, the literals after the last 0, and where the reader is
 pub record Block : Type 0 where
   pub variables : ℕ
   pub declared : ℕ
@@ -48,9 +49,9 @@ with_clause clause b = record b {
   pending = [];
 }
 
--- the literals behind the last 0 are closed to a clause; all closed clauses have at most 2^24 literals
+-- the literals after the last 0 are closed to a clause; all closed clauses have no more literals than are served
 abbrev pub closed : Option (List ℕ) → Block → Result Block BlockFault
-closed clause b = if nat_lt 16777216 (b.literals + size_of clause) then Err (Limit Literals) else Ok (with_clause clause b)
+closed clause b = if nat_lt limits.literals (b.literals + size_of clause) then Err (Limit Literals) else Ok (with_clause clause b)
 
 -- after a word that says this: a literal, or the 0 that closes a clause
 abbrev pub after_number : NumberWord → Block → Result Block BlockFault
@@ -69,7 +70,7 @@ abbrev pub after_percent : List (List ℕ) → Block → Result Block BlockFault
 after_percent [] b = Ok (record b { stage = stage.Percent })
 after_percent (word ∷ words) b = Err Trailing
 
--- behind the line `%` a line of the one word `0` may stand
+-- after the line `%` a line of the one word `0` may stand
 abbrev pub after_zero : List ℕ → List (List ℕ) → Block → Result Block BlockFault
 after_zero first [] b = if bytes_eq first (codes "0") then Ok (record b { stage = stage.Zero }) else Err Trailing
 after_zero first (word ∷ words) b = Err Trailing
@@ -80,7 +81,7 @@ after_counted stage.Clauses first others b = if bytes_eq first (codes "%") then 
 after_counted stage.Percent first others b = after_zero first others b
 after_counted stage.Zero first others b = Err Trailing
 
--- after the words of a line behind the header
+-- after the words of a line after the header
 abbrev pub after_row : List (List ℕ) → Block → Result Block BlockFault
 after_row [] b = Ok b
 after_row (first ∷ others) b = if is_comment first then Ok b else if bytes_eq first (codes "p") then Err BadHeader else after_counted b.stage first others b
@@ -90,19 +91,19 @@ abbrev pub after_rows : List (List (List ℕ)) → Block → Result Block BlockF
 after_rows [] b = Ok b
 after_rows (row ∷ rows) b = after_row row b >>= after_rows rows
 
--- the block behind a header of these numbers
+-- the block after a header of these numbers
 abbrev pub block_of : ℕ → ℕ → Block
 block_of variables declared = record { variables = variables; declared = declared; clauses = []; found = 0; literals = 0; pending = []; stage = stage.Clauses }
 
--- at most 65,536 variables, and at most 2^20 clauses
+-- no more variables, and then no more clauses, than are served
 abbrev pub within_limits : ℕ → ℕ → Result Block BlockFault
-within_limits variables declared = if nat_lt 65536 variables then Err (Limit Variables) else if nat_lt 1048576 declared then Err (Limit Clauses) else Ok (block_of variables declared)
+within_limits variables declared = if nat_lt limits.variables variables then Err (Limit Variables) else if nat_lt limits.clauses declared then Err (Limit Clauses) else Ok (block_of variables declared)
 
 -- the two numbers of a header
 abbrev pub opened_with : List ℕ → List ℕ → Result Block BlockFault
 opened_with v c = if is_numeral v && is_numeral c then within_limits (value_of v) (value_of c) else Err BadHeader
 
--- the block behind the words of a header
+-- the block after the words of a header
 abbrev pub opened : List (List ℕ) → Result Block BlockFault
 opened (p ∷ cnf ∷ v ∷ c ∷ []) = if bytes_eq p (codes "p") && bytes_eq cnf (codes "cnf") then opened_with v c else Err BadHeader
 opened words = Err BadHeader
@@ -112,7 +113,7 @@ abbrev pub formula_of : List ℕ → Block → Result Formulated BlockFault
 formula_of [] b = Ok (record { variables = b.variables; clauses = b.clauses })
 formula_of (lit ∷ lits) b = Err Trailing
 
--- the end of a block: the clauses are as many as declared, and no literals are left behind them
+-- the end of a block: the clauses are as many as declared, and no literals are left after them
 abbrev pub ended : Block → Result Formulated BlockFault
 ended b = if b.found == b.declared then formula_of b.pending b else Err (ClauseCount b.declared b.found)
 
@@ -136,7 +137,7 @@ abbrev pub on_line : {A : Type 0} → ℕ → Result A BlockFault → Result A (
 on_line line (Ok x) = Ok x
 on_line line (Err fault) = Err (line, fault)
 
--- the lines that are left, behind so many lines; a fault at the end is named with the last line, 1 where there is none
+-- the lines that are left, after so many lines; a fault at the end is named with the last line, 1 where there is none
 abbrev pub read_rows : List (List (List ℕ)) → ℕ → Option Block → Result Formulated (ℕ × BlockFault)
 read_rows [] line state = on_line (max 1 line) (at_end state)
 read_rows (row ∷ rows) line state = on_line (suc line) (after_line row state) >>= read_rows rows (suc line)

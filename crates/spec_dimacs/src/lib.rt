@@ -56,7 +56,7 @@ pub fn header_examples()
     ensures { HeaderExamples }
 {}
 
-/// What is wrong with small texts behind their header.
+/// What is wrong with small texts after their header.
 #[tactic(auto, using(crate::proofs::Examples::fault_examples))]
 pub fn fault_examples()
     ensures { FaultExamples }

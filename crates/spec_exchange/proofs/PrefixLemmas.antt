@@ -34,7 +34,7 @@ prefix-prefix k m (e ∷ es) h = by_fit (nat_le (length e.lits) m) refl (λ fits
     by_fit true q rest = by_least (nat_le (length e.lits) k) refl rest
     by_fit false q rest = let over : m < length e.lits = leb-false (length e.lits) m q in sym (prefix-ends k e es (omega arith))
 
--- an entry that does not fit, and what stands behind it, changes nothing
+-- an entry that does not fit, and what stands after it, changes nothing
 prefix-without : (k : ℕ) (x : NumberedClause) (rest : List NumberedClause → List NumberedClause) (ys : List NumberedClause) → k < length x.lits → prefix k (merged_from x rest ys) ≡ prefix k ys
 prefix-without k x rest [] over = prefix-ends k x (rest []) over
 prefix-without k x rest (y ∷ ys) over =

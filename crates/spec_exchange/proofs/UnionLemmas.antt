@@ -54,7 +54,7 @@ own-here x xs (b, s) = rw (cmp_itself x.lits, absent x.lits xs s b) refl
 not-here : (a : List ℕ) (y : NumberedClause) (ys : List NumberedClause) → IsSorted (y ∷ ys) → lits_cmp a y.lits ≡ Less → least_id a (y ∷ ys) ≡ None
 not-here a y ys s h = absent a (y ∷ ys) s h
 
--- where the first entries are equal and so are all numbers, the numbers behind them are
+-- where the first entries are equal and so are all numbers, the numbers after them are
 behind : (x y : NumberedClause) (xs ys : List NumberedClause) → x.lits ≡ y.lits → IsSorted (x ∷ xs) → IsSorted (y ∷ ys) → (a : List ℕ) → least_id a (x ∷ xs) ≡ least_id a (y ∷ ys) → least_id a xs ≡ least_id a ys
 behind x y xs ys same (b, s) (c, t) a e = by_order (lits_cmp a x.lits) refl
   where

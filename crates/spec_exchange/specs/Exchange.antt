@@ -1,5 +1,5 @@
 -- What the solvers of one job tell each other: their clauses in one order, each once, as many as a buffer takes.
-use Rattle.std.specs.Prelude.{ℕ, ◌-◌, nat_le, List, [], ◌∷◌, length, flat_map, if◌then◌else◌}
+use Rattle.std.specs.Prelude.{ℕ, zero, suc, ◌-◌, ◌/◌, nat_le, List, [], ◌∷◌, ◌++◌, length, map, take, flat_map, slice_set, get_or, if◌then◌else◌}
 use Rattle.std.specs.declared.cmp.Ordering.{Ordering}
 use Rattle.std.specs.declared.cmp.Ordering.TheVariants.{Less, Equal, Greater}
 use Rattle.std.specs.Ordering.{nat_cmp}
@@ -18,7 +18,7 @@ lits_cmp a b = slice_cmp nat_cmp (sized a) (sized b)
 abbrev pub lesser : NumberedClause → NumberedClause → NumberedClause
 lesser e x = if nat_le e.id x.id then e else x
 
--- an entry in its place before, at or behind the first of some entries; behind it, the others have it in its place
+-- an entry in its place before, at or after the first of some entries; after it, the others have it in its place
 abbrev pub put_by : Ordering → NumberedClause → NumberedClause → List NumberedClause → List NumberedClause → List NumberedClause
 put_by Less e x xs others = e ∷ x ∷ xs
 put_by Equal e x xs others = lesser e x ∷ xs
@@ -64,3 +64,20 @@ broadcast exports = prefix most_literals (union exports)
 -- all entries of the buffers of a tree's nodes, by index
 abbrev pub entries_of : List (List NumberedClause) → List NumberedClause
 entries_of buffers = flat_map (λ b. b) buffers
+
+-- the place above one in a tree
+abbrev pub above : ℕ → ℕ
+above place = (place - 1) / 2
+
+-- the buffers of a tree's places after the last one was merged into the one above it and cut there
+abbrev pub climbed_once : List (List NumberedClause) → List (List NumberedClause)
+climbed_once tops = slice_set (take (length tops - 1) tops) (above (length tops - 1)) (prefix most_literals (union (get_or tops (above (length tops - 1)) [] ++ get_or tops (length tops - 1) [])))
+
+-- the same so many times
+abbrev pub climbed : ℕ → List (List NumberedClause) → List (List NumberedClause)
+climbed zero tops = tops
+climbed (suc n) tops = climbed n (climbed_once tops)
+
+-- what the root of a tree has once the buffers climbed it, where each solver began with the buffer of what it exports
+abbrev pub climbed_root : List (List NumberedClause) → List NumberedClause
+climbed_root exports = get_or (climbed (length exports - 1) (map broadcast exports)) 0 []

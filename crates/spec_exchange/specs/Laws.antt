@@ -1,9 +1,11 @@
 -- What holds of unions and prefixes, in the form in which the law functions state it.
-use Rattle.std.specs.Prelude.{◌≡◌, ℕ, ◌+◌, ◌<◌, ◌≤◌, List, [], ◌∷◌, ◌++◌, length, sum_by, get_or}
-use Rattle.std.specs.Prelude.{slice_set}
+use Rattle.std.specs.Prelude.{◌≡◌, ℕ, ◌+◌, ◌<◌, ◌≤◌, List, [], ◌∷◌, ◌++◌, length, map, sum_by, get_or, slice_set}
+use Rattle.std.specs.List.{dedup}
+use Rattle.std.specs.List.Sorted.{IsPermutation, IsSortedBy}
+use Rattle.std.specs.Ordering.{is_lt}
 use Rattle.mal_base.specs.NumberedClause.{NumberedClause}
-use Rattle.spec_exchange.specs.Exchange.{union, prefix, most_literals, broadcast, entries_of}
-use Rattle.spec_exchange.specs.Order.{IsSorted, least_id}
+use Rattle.spec_exchange.specs.Exchange.{union, prefix, most_literals, broadcast, entries_of, climbed_root}
+use Rattle.spec_exchange.specs.Order.{IsSorted, least_id, entry_cmp, has_same_lits}
 
 -- the literals of entries, counted
 abbrev pub literals_in : List NumberedClause → ℕ
@@ -22,6 +24,10 @@ SortedAreDecided =
     (xs ys : List NumberedClause) → IsSorted xs → IsSorted ys
     → ((lits : List ℕ) → least_id lits xs ≡ least_id lits ys) → xs ≡ ys
 
+-- entries that are sorted once are their union where of neighbours with the same literals the first alone stays
+abbrev pub SortsOnce : Type 0
+SortsOnce = (es xs : List NumberedClause) → IsPermutation es xs → IsSortedBy (λ e x. is_lt (entry_cmp e x)) xs → dedup has_same_lits xs ≡ union es
+
 -- it does not matter which entries come first, nor whether some were united before
 abbrev pub OrderDoesNotMatter : Type 0
 OrderDoesNotMatter = (xs ys : List NumberedClause) → union (xs ++ ys) ≡ union (ys ++ xs)
@@ -39,7 +45,15 @@ MergesUp =
     (buffers : List (List NumberedClause)) (place : ℕ) (last : List NumberedClause) → place < length buffers
     → broadcast (entries_of (slice_set buffers place (prefix most_literals (union (get_or buffers place [] ++ last))))) ≡ broadcast (entries_of (buffers ++ last ∷ []))
 
--- it is a prefix that fits, and the entry behind it does not fit any more
+-- where each solver broadcasts what it exports for itself, the same is broadcast to all
+abbrev pub NodeByNode : Type 0
+NodeByNode = (exports : List (List NumberedClause)) → broadcast (entries_of (map broadcast exports)) ≡ broadcast (entries_of exports)
+
+-- and so it is where these buffers climb the tree up to its root
+abbrev pub ClimbsToTheSame : Type 0
+ClimbsToTheSame = (exports : List (List NumberedClause)) → climbed_root exports ≡ broadcast (entries_of exports)
+
+-- it is a prefix that fits, and the entry after it does not fit any more
 pub record IsLongestPrefix (room : ℕ) (es : List NumberedClause) : Type 0 where
   pub fits : literals_in (prefix room es) ≤ room
   pub is_prefix : (rest : List NumberedClause) × (es ≡ prefix room es ++ rest) × ((e : NumberedClause) (others : List NumberedClause) → rest ≡ e ∷ others → room < literals_in (prefix room es) + length e.lits)

@@ -1,9 +1,18 @@
 -- Sorted entries, and the least number under a list of literals.
-use Rattle.std.specs.Prelude.{◌≡◌, ℕ, min, List, [], ◌∷◌, Option, Some, None, if◌then◌else◌}
+use Rattle.std.specs.Prelude.{◌≡◌, ℕ, min, Bool, List, [], ◌∷◌, Option, Some, None, if◌then◌else◌}
+use Rattle.std.specs.declared.cmp.Ordering.{Ordering}
 use Rattle.std.specs.declared.cmp.Ordering.TheVariants.{Less}
-use Rattle.std.specs.Ordering.{is_eq}
+use Rattle.std.specs.Ordering.{is_eq, nat_cmp, ordering_then}
 use Rattle.mal_base.specs.NumberedClause.{NumberedClause}
 use Rattle.spec_exchange.specs.Exchange.{lits_cmp}
+
+-- the order of entries: by their literals, and those with the same literals by their numbers
+abbrev pub entry_cmp : NumberedClause → NumberedClause → Ordering
+entry_cmp e x = ordering_then (lits_cmp e.lits x.lits) (nat_cmp e.id x.id)
+
+-- whether an entry has the literals of another one
+abbrev pub has_same_lits : NumberedClause → NumberedClause → Bool
+has_same_lits e x = is_eq (lits_cmp e.lits x.lits)
 
 -- these literals come before those of the first entry, if there is one
 abbrev pub IsBefore : List ℕ → List NumberedClause → Type 0

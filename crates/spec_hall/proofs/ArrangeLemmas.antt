@@ -40,7 +40,7 @@ balance-calm w h shares some legal may =
     let after = seated-balance w h has.seats vs has.are facts.fair facts.due in
     subst (λ (xs : List Share). Some (lives (states (h ++ Balance xs ∷ []))) ≡ balanced (h ++ Balance xs ∷ [])) (sym facts.same) (seated-calm w (h ++ Balance (shares_by vs has.seats) ∷ []) (balanced_by vs has.seats) (lives (states h)) after (balanced-push h (Balance (shares_by vs has.seats))) (calm-balanced 0 vs has.seats))
 
--- what is due, and more behind it
+-- what is due, and more after it
 pub due-more : (w : ℕ) (past es fs : List Event) → AreDue w past es → AreDue w (past ++ es) fs → AreDue w past (es ++ fs)
 due-more w past [] fs one two = subst (λ (h : List Event). AreDue w h fs) (append-nil past) two
 due-more w past (e ∷ es) fs one two =

@@ -1,8 +1,9 @@
--- A call's answer and its events are decided by the history and by whether memory was wanting.
+-- A call's answer and its events are decided by the history and by whether memory ran out.
 use Rattle.std.proofs.Common.{◌≡◌, ℕ, ◌+◌, ◌<◌, ◌≤◌, true, false, ◌==◌, List, [], ◌∷◌, ◌++◌, length, Option, Some, None, is_some, refl, sym, ◌∙◌, ap, subst, arith, append_assoc, append-nil}
 use Rattle.std.specs.Prelude.{Result, Ok, Err}
 use Rattle.std.specs.List.{list_all, list_any}
 use Rattle.std.proofs.lemmas.Bool.{and_parts, both_ways, eqb-true}
+use Rattle.mal_base.specs.Limits.{limits}
 use Rattle.mal_base.specs.Asks.{Terms, Weighed}
 use Rattle.mal_base.specs.declared.limit_kind.LimitKind.{LimitKind}
 use Rattle.mal_base.specs.declared.limit_kind.LimitKind.TheVariants.{Variables, Clauses, Literals, Tenants, Jobs, Revisions}
@@ -120,7 +121,7 @@ same-starts w worker past due other k j index place same may might =
     let there : Allowed w (past ++ due) (Start j place worker) = subst (λ (xs : List Event). Allowed w (past ++ xs) (Start j place worker)) (sym same) might in
     nodes-decided w (past ++ due) k j index place worker worker may.0 there.0 may.1 there.1
 
--- so is a start behind what is due, with the lease that is handed out
+-- so is a start after what is due, with the lease that is handed out
 starting-decided : (w : ℕ) (past : List Event) (worker : ℕ) (one other : Handed) (es fs : List Event) → IsStarting w past worker one es → IsStarting w past worker other fs → (one ≡ other) × (es ≡ fs)
 starting-decided w past worker one other es fs a b =
     let due : a.due ≡ b.due = due-decided w past a.due b.due a.first b.first (start-calm w (past ++ a.due) a.key a.index worker a.start) (start-calm w (past ++ b.due) b.key b.index worker b.start) in
@@ -305,13 +306,13 @@ over-room Jobs past k number r t may over = over
 over-room Revisions past k number r t may over = over
 
 -- of the other causes of a refusal none holds where a revision may come, and no two hold
-few-full : (t u : KeyedJob) → t ≡ u → length t.state.revisions < 256 → 256 ≤ length u.state.revisions → ⊥
+few-full : (t u : KeyedJob) → t ≡ u → length t.state.revisions < limits.revisions → limits.revisions ≤ length u.state.revisions → ⊥
 few-full t u same few full = let equal : length t.state.revisions ≡ length u.state.revisions = ap (λ (x : KeyedJob). length x.state.revisions) same in omega (arith, few, full, equal)
 
 may-over : (which : LimitKind) (past : List Event) (k : Key) (number : ℕ) (r : Posted) (t u : KeyedJob) → t ≡ u → MayRevise past k number r t → IsOver which u.state.revisions r → ⊥
 may-over which past k number r t u same may over = over-room which past k number r t may (subst (λ (x : KeyedJob). IsOver which x.state.revisions r) (sym same) over)
 
-may-few : (past : List Event) (k : Key) (r : Posted) (t : KeyedJob) → MayRevise past k (length t.state.revisions + 1) r t → length t.state.revisions < 256
+may-few : (past : List Event) (k : Key) (r : Posted) (t : KeyedJob) → MayRevise past k (length t.state.revisions + 1) r t → length t.state.revisions < limits.revisions
 may-few past k r t may = omega (arith, may.room)
 
 -- so is a revision

@@ -21,7 +21,7 @@ use Rattle.spec_hall.proofs.PushLemmas.{own-push, solo-push, own_step-keeps, key
 use Rattle.spec_hall.proofs.VolumeLemmas.{revise-keeps}
 use Rattle.spec_hall.proofs.StatesLemmas.{IsFound, keys-stay, job_of-found, job_of-states, legal_from-keeps}
 
--- a list of revisions with more behind them
+-- a list of revisions with more after them
 record Grows (xs ys : List Posted) : Type 0 where
   more : List Posted
   is : ys ≡ xs ++ more

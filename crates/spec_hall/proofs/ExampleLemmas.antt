@@ -2,6 +2,7 @@
 use Rattle.std.proofs.Common.{◌≡◌, ℕ, zero, suc, ◌<◌, ◌≤◌, true, false, List, [], ◌∷◌, ◌++◌, length, map, get_or, Option, Some, option_map, inl, inr, refl, ap, arith}
 use Rattle.std.specs.List.{list_any}
 use Rattle.std.specs.Option.{option_map_or}
+use Rattle.mal_base.specs.Limits.{limits}
 use Rattle.mal_base.specs.Asks.{Terms}
 use Rattle.mal_base.specs.Names.{is_name}
 use Rattle.spec_balance.specs.Fair.{IsFair, HasNoBetterClaim, demand_at, volume_at}
@@ -21,7 +22,7 @@ of-three P a b c (suc zero) low = b
 of-three P a b c (suc (suc zero)) low = c
 of-three P a b c (suc (suc (suc i))) low = absurd (omega (arith, low))
 
--- behind three places there is none
+-- after three places there is none
 none-behind : (x y z i : ℕ) → 8 ≤ i → volume_at (x ∷ y ∷ z ∷ []) i ≡ 0
 none-behind x y z zero high = absurd (omega (arith, high))
 none-behind x y z (suc zero) high = absurd (omega (arith, high))
@@ -74,11 +75,11 @@ fair-after = record {
 abbrev opened : ℕ → ℕ → KeyedJob
 opened letter priority = record { key = key letter; state = solo (Opened (eight priority) ∷ []) }
 
-may-open : (past : List Event) (letter priority : ℕ) → is_name (letter ∷ []) ≡ true → 1 ≤ priority → priority ≤ 1000 → list_any (is_key (key letter)) (names_of past) ≡ false → jobs_of (97 ∷ []) (names_of past) < 64 → tenant_count (names_of past) < 64 → MayOpen past (key letter) (eight priority)
+may-open : (past : List Event) (letter priority : ℕ) → is_name (letter ∷ []) ≡ true → 1 ≤ priority → priority ≤ limits.priority → list_any (is_key (key letter)) (names_of past) ≡ false → jobs_of (97 ∷ []) (names_of past) < limits.jobs_of_tenant → tenant_count (names_of past) < limits.tenants → MayOpen past (key letter) (eight priority)
 may-open past letter priority name low high fresh jobs tenants = record {
   tenant = refl;
   job = name;
-  asked = record { some_priority = low; priority_bound = high; some_demand = omega arith; demand_bound = omega arith; some_slices = omega arith; slices_bound = omega arith; some_profile = omega arith; profile_bound = omega arith };
+  asked = record { some_priority = low; priority_bound = high; some_demand = omega arith; demand_bound = omega arith; some_slices = omega arith; slices_bound = omega arith };
   fresh = fresh;
   tenant_room = jobs;
   hall_room = λ none. tenants;

@@ -4,6 +4,7 @@ use Rattle.std.specs.Option.{option_map_or}
 use Rattle.std.proofs.lemmas.Bool.{both_ways, false_from_ne_true}
 use Rattle.std.proofs.lemmas.Bool.Decides.{Decides-eqb}
 use Rattle.mal_base.specs.Asks.{Terms}
+use Rattle.mal_base.specs.declared.profile.Profile.{Profile}
 use Rattle.mal_base.specs.declared.verdict.Outcome.{Outcome}
 use Rattle.mal_revision.specs.Posted.{Posted}
 use Rattle.spec_job.specs.Journal.{JournalEntry}
@@ -229,7 +230,7 @@ starts-stay w past (Leave k) worker l is = ap (λ (n : Numbered). n.last) (numbe
 starts-stay w past (Arrive k brought) worker l is = ap (λ (n : Numbered). n.last) (numbered-push worker past (Arrive k brought))
 
 -- a lease from these parts
-abbrev handed_by : LeaseOut → ℕ → ℕ → ℕ → Left → Handed
+abbrev handed_by : LeaseOut → ℕ → Profile → ℕ → Left → Handed
 handed_by l job profile start p = record { journal = record { job = job; profile = profile; index = l.index; start = start; entries = p.entries }; adds = option_map_or (λ o. o.adds) p.out []; worker = l.worker }
 
 -- a lease that stays out is as it was handed out
@@ -241,7 +242,7 @@ handed-stays w past e worker l is =
     let left : left_at (solo (own l.key now)) l.index ≡ left_at (solo (own l.key past)) l.index = ap (λ (es : List Own). left_at (solo es) l.index) (own-push l.key past e) ∙ event-left w past e worker l is in
     let profile : (solo (own l.key now)).ask.profile ≡ (solo (own l.key past)).ask.profile = ap (λ (es : List Own). (solo es).ask.profile) (own-push l.key past e) ∙ event-profile w past e worker l is in
     ap (λ (n : ℕ). handed_by l n (solo (own l.key now)).ask.profile (start_number l.worker now) (left_at (solo (own l.key now)) l.index)) (number-keeps w past e worker l is)
-    ∙ (ap (λ (n : ℕ). handed_by l (job_number l.key past) n (start_number l.worker now) (left_at (solo (own l.key now)) l.index)) profile
+    ∙ (ap (λ (p : Profile). handed_by l (job_number l.key past) p (start_number l.worker now) (left_at (solo (own l.key now)) l.index)) profile
     ∙ (ap (λ (n : ℕ). handed_by l (job_number l.key past) (solo (own l.key past)).ask.profile n (left_at (solo (own l.key now)) l.index)) start
     ∙ ap (λ (p : Left). handed_by l (job_number l.key past) (solo (own l.key past)).ask.profile (start_number l.worker past) p) left))
 

@@ -66,7 +66,7 @@ balance-due w h ss seated = by_last (balanced h) refl
     by_last None none = ap (λ (o : Option (List Live)). not (option_map_or (pointwise is_same_live (lives (states h))) o false)) none
     by_last (Some ls) some = by_test ls some (is_due ss) refl
 
--- what is left behind a history is left in its seats
+-- what is left after a history is left in its seats
 pub seated-left : (w : ℕ) (h : List Event) (ss : List Seat) → IsSeated w h ss → left_in h ≡ left_by (is_balancing_due h ss) (jobs_in ss)
 seated-left w h ss seated = ap (λ (b : Bool). left_by b (states h)) (balance-due w h ss seated) ∙ ap (left_by (is_balancing_due h ss)) seated.jobs
 
@@ -78,7 +78,7 @@ left-when w h ss due seated e = seated-left w h ss seated ∙ ap (λ (b : Bool).
 pub calm-due : (h : List Event) (ss : List Seat) (ls : List Live) → balanced h ≡ Some ls → is_due ss ≡ false → is_balancing_due h ss ≡ false
 calm-due h ss ls some calm = ap (λ (o : Option (List Live)). is_none o || is_due ss) some ∙ calm
 
--- less is left behind a balancing
+-- less is left after a balancing
 pub left-balance : (w : ℕ) (h : List Event) (ss : List Seat) (vs : List ℕ) → IsSeated w h ss → IsFair w (live_asks (jobs_in ss)) vs → is_balancing_due h ss ≡ true → left_in (h ++ Balance (shares_by vs ss) ∷ []) < left_in h
 left-balance w h ss vs seated fair due =
     let later : List Event = h ++ Balance (shares_by vs ss) ∷ [] in
@@ -92,7 +92,7 @@ due-set [] n s now at same = refl
 due-set (x ∷ xs) zero s now at same = let here : x ≡ s = cc in ap (λ (b : Bool). b || is_due xs) (same ∙ ap has_changed (sym here))
 due-set (x ∷ xs) (suc n) s now at same = ap (λ (b : Bool). has_changed x || b) (due-set xs n s now at same)
 
--- less is left behind an exchange
+-- less is left after an exchange
 pub left-exchange : (w : ℕ) (h : List Event) (ss : List Seat) (n : ℕ) (s : Seat) → IsSeated w h ss → is_balancing_due h ss ≡ false → first_exchange ss ≡ Some n → slice_get ss n ≡ Some s → left_in (h ++ Exchange s.job.titled.key ∷ []) < left_in h
 left-exchange w h ss n s seated calm first at =
     let later : List Event = h ++ Exchange s.job.titled.key ∷ [] in
@@ -102,7 +102,7 @@ left-exchange w h ss n s seated calm first at =
     let was : left_in h ≡ left_by false (jobs_in ss) = left-when w h ss false seated calm in
     subst (λ (m : ℕ). m < left_in h) (sym now) (subst (λ (m : ℕ). left_by false (jobs_in (slice_set ss n seat)) < m) (sym was) (exchange-less ss n s first at))
 
--- the seat of a job behind a start with its end
+-- the seat of a job after a start with its end
 abbrev pub sliced_seat : Seat → ℕ → Outcome → Seat
 sliced_seat s index outcome = record s { job = and_own (and_start s.job index 0) (Finished index outcome) }
 
@@ -121,7 +121,7 @@ seated-slice w h ss n s index worker outcome seated at may ends =
     set-get (y ∷ ys) zero x t e = refl
     set-get (y ∷ ys) (suc m) x t e = set-get ys m x t e
 
--- less is left behind a start with its end that leaves less to its job
+-- less is left after a start with its end that leaves less to its job
 pub left-slice : (w : ℕ) (h : List Event) (ss : List Seat) (n : ℕ) (s : Seat) (index worker : ℕ) (outcome : Outcome) → IsSeated w h ss → slice_get ss n ≡ Some s → is_balancing_due h ss ≡ false → Allowed w h (Start s.job.titled.key index worker) → Allowed w (h ++ Start s.job.titled.key index worker ∷ []) (Finish s.job.titled.key index worker outcome) → left_of (after_start s.job.titled.state index outcome) < left_of s.job.titled.state → left_in ((h ++ Start s.job.titled.key index worker ∷ []) ++ Finish s.job.titled.key index worker outcome ∷ []) < left_in h
 left-slice w h ss n s index worker outcome seated at calm may ends less =
     let ended : Seat = sliced_seat s index outcome in

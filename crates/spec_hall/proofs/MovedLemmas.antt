@@ -1,4 +1,4 @@
--- What a job does behind its arrival joins what it brought.
+-- What a job does after its arrival joins what it brought.
 use Rattle.std.proofs.Common.{◌≡◌, ℕ, Bool, true, false, cond, ◌==◌, List, [], ◌∷◌, ◌++◌, fold, refl, sym, ◌∙◌, ap, append_assoc, append-nil, if◌then◌else◌}
 use Rattle.std.specs.List.{list_any}
 use Rattle.std.proofs.lemmas.Bool.{both_ways, or_parts}
@@ -10,7 +10,7 @@ use Rattle.spec_hall.specs.Laws.{OwnGoesOn}
 use Rattle.spec_hall.specs.Own.{own, own_step, adds, adds_volume, arrives, is_key, volume_in, volume_after, volume_step}
 use Rattle.spec_hall.proofs.KeyLemmas.{is_key-same}
 
--- the volume behind own events that leave none
+-- the volume after own events that leave none
 volume-behind : (pre es : List Own) → volume_after pre ≡ 0 → volume_after (pre ++ es) ≡ volume_after es
 volume-behind pre es none = fold-append volume_step 0 pre es ∙ ap (λ (v : ℕ). fold volume_step v es) none
 
@@ -18,7 +18,7 @@ adds-behind : (mine : Bool) (pre es : List Own) (o : Own) → adds mine (pre ++ 
 adds-behind true pre es o = append_assoc pre es (o ∷ [])
 adds-behind false pre es o = refl
 
--- a volume joins what is behind them
+-- a volume joins what is after them
 pub volume-joins : (v : ℕ) (pre es : List Own) → volume_after pre ≡ 0 → adds_volume v (pre ++ es) ≡ pre ++ adds_volume v es
 volume-joins v pre es none = ap (λ (w : ℕ). if v == w then pre ++ es else (pre ++ es) ++ Volume v ∷ []) (volume-behind pre es none) ∙ by_test (v == volume_after es)
   where
@@ -26,7 +26,7 @@ volume-joins v pre es none = ap (λ (w : ℕ). if v == w then pre ++ es else (pr
     by_test true = refl
     by_test false = append_assoc pre es (Volume v ∷ [])
 
--- an event that is no arrival of the job joins what is behind them
+-- an event that is no arrival of the job joins what is after them
 pub own-behind : (j : Key) (pre es : List Own) (e : Event) → volume_after pre ≡ 0 → arrives j e ≡ false → own_step j (pre ++ es) e ≡ pre ++ own_step j es e
 own-behind j pre es (Open k ask) none free = adds-behind (is_key j k) pre es (Opened ask)
 own-behind j pre es (Revise k number r) none free = adds-behind (is_key j k) pre es (Revised r)

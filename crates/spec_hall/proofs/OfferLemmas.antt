@@ -1,4 +1,4 @@
--- Where a job is live and nothing is out, a worker that picks gets a lease, unless memory is wanting.
+-- Where a job is live and nothing is out, a worker that picks gets a lease, unless memory runs out.
 use Rattle.std.proofs.Common.{◌≡◌, ◌≢◌, ◌⊎◌, ℕ, zero, suc, ◌≤◌, Bool, true, false, cond, ◌==◌, List, [], ◌∷◌, ◌++◌, length, map, slice_get, slice_set, Result, Ok, Err, Some, is_some, inl, inr, refl, sym, ◌∙◌, ap, subst, append_assoc, append-nil}
 use Rattle.std.specs.List.{list_all}
 use Rattle.std.proofs.lemmas.Bool.{and_parts}

@@ -3,6 +3,7 @@ use Rattle.std.specs.Prelude.{All, nat_lt}
 use Rattle.std.specs.Option.{option_map}
 use Rattle.std.proofs.lemmas.Option.{slice_get-map}
 use Rattle.std.proofs.lemmas.List.Elements.{All-nil, All-head, All-tail, All-weaker, All-append, All-map}
+use Rattle.mal_base.specs.Limits.{limits}
 use Rattle.mal_revision.specs.Posted.{Posted}
 use Rattle.spec_node.specs.Load.{counted}
 use Rattle.spec_node.proofs.BatchLemmas.{All-filtered, all-of}
@@ -92,8 +93,8 @@ picked-may w past k i worker choice may =
 revised-may : (past : List Event) (k : Key) (number : ℕ) (r : Posted) (t : KeyedJob) → MayRevise past k number r t → MayCome (solo (own k past)) r
 revised-may past k number r t may =
     let same : t ≡ titled past k = sym (find-titled past k (keys_of past) t may.job) in
-    let room : clauses_in t.state.revisions + length r.clauses ≤ 1048576 = may.clause_room in
-    let own_room : clauses_in (solo (own k past)).revisions + length r.clauses ≤ 1048576 = subst (λ (x : KeyedJob). clauses_in x.state.revisions + length r.clauses ≤ 1048576) same room in
+    let room : clauses_in t.state.revisions + length r.clauses ≤ limits.clauses = may.clause_room in
+    let own_room : clauses_in (solo (own k past)).revisions + length r.clauses ≤ limits.clauses = subst (λ (x : KeyedJob). clauses_in x.state.revisions + length r.clauses ≤ limits.clauses) same room in
     record { posted = may.posted; room = omega arith }
 
 -- one more own event that may happen

@@ -152,7 +152,7 @@ seated-finish w h ss n s index worker outcome seated at may =
     let keeps : KeepsTerms s.job.titled.state (solo_step s.job.titled.state (Finished index outcome)) = finish-keeps s.job.titled.state index outcome in
     seats-touch w h ss n s (Finish s.job.titled.key index worker outcome) (Finished index outcome) (and_own s.job (Finished index outcome)) seated at may (finish-touches s.job.titled.key index worker outcome) refl keeps.volume
 
--- a job that is not listed comes behind the others
+-- a job that is not listed comes after the others
 listed-push : (ss : List Seat) (s : Seat) → s.listed ≡ false → listed_seats (ss ++ s ∷ []) ≡ listed_seats ss
 listed-push ss s unlisted = filter-append (λ (x : Seat). x.listed) ss (s ∷ []) ∙ (ap (λ (b : Bool). listed_seats ss ++ cond b (s ∷ []) []) unlisted ∙ append-nil (listed_seats ss))
 
@@ -162,7 +162,7 @@ volumes-push w ss s none unlisted h = record {
   others = All-push HasNoneUnlisted ss s h.others (λ _. none);
 }
 
--- a seat that is not listed and whose job has no volume comes behind the others
+-- a seat that is not listed and whose job has no volume comes after the others
 pub record Comes (h : List Event) (e : Event) (seat : Seat) : Type 0 where
   pub states : states (h ++ e ∷ []) ≡ states h ++ seat.job.titled ∷ []
   pub unlisted : seat.listed ≡ false

@@ -39,7 +39,7 @@ same-volume k (s ∷ shares) = ap (λ (b : Bool). option_map_or (λ (x : Share).
     by_test rest true = refl
     by_test rest false = rest
 
--- own events with one more behind them
+-- own events with one more after them
 told-push : (k : Key) (n : ℕ) (os : List Own) (o : Own) → told_from k n (os ++ o ∷ []) ≡ told_from k n os ++ told k (fold next_number n os) o ∷ []
 told-push k n [] o = refl
 told-push k n (x ∷ os) o = ap (λ (es : List written.Event). told k n x ∷ es) (told-push k (next_number n x) os o)
@@ -62,7 +62,7 @@ steps-number s (o ∷ os) = steps-number (solo_step s o) os ∙ ap (λ n. fold n
 solo-number : (os : List Own) → length (solo os).revisions + 1 ≡ fold next_number 1 os
 solo-number os = steps-number unopened os
 
--- what is told of a job that has these own events behind what was told before
+-- what is told of a job that has these own events after what was told before
 abbrev so_far : Key → ℕ → List written.Event → List Own → text.OwnSoFar
 so_far k first front os = text.told_of (front ++ told_from k first os) (volume_after os)
 
@@ -130,7 +130,7 @@ step-told k first front os (Arrive j brought) next free = ap (λ b. text.tells_a
     by_test true q = absurd (both_ways true q refl)
     by_test false q = refl
 
--- legal events that are no arrivals of the job, behind what it brought
+-- legal events that are no arrivals of the job, after what it brought
 all-told : (w : ℕ) (k : Key) (front : List written.Event) (pre os : List Own) (past es : List Event) → volume_after pre ≡ 0 → own k past ≡ pre ++ os → LegalFrom w past es → list_any (arrives k) es ≡ false → fold (text.own_step k.tenant k.job) (so_far k (fold next_number 1 pre) front os) (map bare es) ≡ so_far k (fold next_number 1 pre) front (fold (own_step k) os es)
 all-told w k front pre os past [] none is legal free = refl
 all-told w k front pre os past (e ∷ es) none is legal free =

@@ -77,7 +77,7 @@ states-touch h e k o n touches apart at =
     ∙ (map-touch (titled h) (titled (h ++ e ∷ [])) k (keys_of h) n apart at (titled-other h e k o touches)
     ∙ ap (slice_set (states h) n) (titled-mine h e k o touches))
 
--- a job that is opened comes behind the others
+-- a job that is opened comes after the others
 pub states-open : (h : List Event) (k : Key) (ask : Terms) → list_any (is_key k) (keys_of h) ≡ false → own k h ≡ [] → states (h ++ Open k ask ∷ []) ≡ states h ++ record { key = k; state = solo_step unopened (Opened ask) } ∷ []
 states-open h k ask fresh none =
     let first : own k (h ++ Open k ask ∷ []) ≡ Opened ask ∷ [] = own-push k h (Open k ask) ∙ (ap (λ (b : Bool). adds b (own k h) (Opened ask)) (is_key-same k) ∙ ap (λ (es : List Own). es ++ Opened ask ∷ []) none) in
@@ -140,7 +140,7 @@ states-leave h k = ap (map (titled (h ++ Leave k ∷ []))) (keys-push h (Leave k
         by_test rest true q = rest
         by_test rest false q = ap (λ (t : KeyedJob). t ∷ map (titled (h ++ Leave k ∷ [])) (filter (λ j. not (is_key k j)) xs)) (other x q) ∙ ap (λ (ts : List KeyedJob). titled h x ∷ ts) rest
 
--- a job that arrives comes behind the others, as its machine run alone on what it brings
+-- a job that arrives comes after the others, as its machine run alone on what it brings
 pub states-arrive : (h : List Event) (k : Key) (brought : List Own) → list_any (is_key k) (keys_of h) ≡ false → states (h ++ Arrive k brought ∷ []) ≡ states h ++ record { key = k; state = solo brought } ∷ []
 states-arrive h k brought absent =
     let first : own k (h ++ Arrive k brought ∷ []) ≡ brought = own-push k h (Arrive k brought) ∙ ap (λ (b : Bool). cond b brought (own k h)) (is_key-same k) in

@@ -118,7 +118,7 @@ arranged-done w h (Exchange k) some legal a may =
     let after : IsSeated w (h ++ Exchange x.seat.job.titled.key ∷ []) (slice_set has.seats x.at (reseated x.seat (and_own x.seat.job Exchanged))) = seats-touch w h has.seats x.at x.seat (Exchange x.seat.job.titled.key) Exchanged (and_own x.seat.job Exchanged) has.are x.is mine (exchange-touches x.seat.job.titled.key) refl refl in
     ap (λ (j : Key). is_done (states (h ++ Exchange j ∷ []))) (sym x.key) ∙ (ap is_done after.jobs ∙ (exchanged-done has.seats x.at x.seat x.is ∙ sym (ap is_done has.are.jobs)))
 
--- less is left behind what arranges the jobs
+-- less is left after what arranges the jobs
 pub arranged-left : (w : ℕ) (h : List Event) (e : Event) → 1 ≤ w → Legal w h → arranges e ≡ true → Allowed w h e → left_in (h ++ e ∷ []) < left_in h
 arranged-left w h (Open k ask) some legal a may = absurd (cc)
 arranged-left w h (Revise k number r) some legal a may = absurd (cc)
@@ -149,7 +149,7 @@ due-left w past (e ∷ es) some legal due =
 pub due-legal : (w : ℕ) (past es : List Event) → Legal w past → AreDue w past es → Legal w (past ++ es)
 due-legal w past es legal due = legal_from-keeps w (Legal w) (λ h e may l. Legal-push w h e l may) past es due.legal legal
 
--- turns behind turns
+-- turns after turns
 pub turns-none : (workers : ℕ) (h : List Event) → GrowsByTurns workers h h
 turns-none workers h = record { turns = []; grown = sym (append-nil h); allowed = tt }
 
@@ -182,7 +182,7 @@ arranged-turn w h (Leave k) a may left = absurd (cc)
 arranged-turn w h (Arrive k brought) a may left = absurd (cc)
 arranged-turn w h (Exchange k) a may left = turns-one w h (Exchanges k) left refl (may, tt)
 
--- so is what is due, and something is still left to do behind it
+-- so is what is due, and something is still left to do after it
 pub record HasTurned (w : ℕ) (past history : List Event) : Type 0 where
   pub turns : GrowsByTurns w past history
   pub left : is_done (states history) ≡ false

@@ -1,6 +1,7 @@
 use Rattle.std.specs.Prelude.{◌≡◌, ℕ, ◌+◌, ◌<◌, ◌≤◌, Bool, true, false, ◌&&◌, ◌==◌, List, [], ◌∷◌, ◌++◌, length, find, flat_map, Option, Some, None, is_some, Result, Ok, Err}
 use Rattle.std.specs.Option.{option_map_or, option_map}
 use Rattle.std.specs.List.{list_all, list_any}
+use Rattle.mal_base.specs.Limits.{limits}
 use Rattle.mal_base.specs.Asks.{Terms, Weighed}
 use Rattle.mal_base.specs.declared.verdict.Outcome.TheVariants.{Lost}
 use Rattle.mal_revision.specs.Posted.{Posted}
@@ -89,8 +90,8 @@ AnswerTo (Leaves k) = Unit {0}
 abbrev pub IsOpening : List Event → Key → Terms → Result (Unit {0}) OpenFault → List Event → Type 0
 IsOpening past k ask (Ok done) es = MayOpen past k ask × (es ≡ Open k ask ∷ [])
 IsOpening past k ask (Err opening.Duplicate) es = (list_any (is_key k) (names_of past) ≡ true) × (es ≡ [])
-IsOpening past k ask (Err opening.TenantFull) es = (list_any (is_key k) (names_of past) ≡ false) × (64 ≤ jobs_of k.tenant (names_of past)) × (es ≡ [])
-IsOpening past k ask (Err opening.HallFull) es = (list_any (is_key k) (names_of past) ≡ false) × (jobs_of k.tenant (names_of past) ≡ 0) × (64 ≤ tenant_count (names_of past)) × (es ≡ [])
+IsOpening past k ask (Err opening.TenantFull) es = (list_any (is_key k) (names_of past) ≡ false) × (limits.jobs_of_tenant ≤ jobs_of k.tenant (names_of past)) × (es ≡ [])
+IsOpening past k ask (Err opening.HallFull) es = (list_any (is_key k) (names_of past) ≡ false) × (jobs_of k.tenant (names_of past) ≡ 0) × (limits.tenants ≤ tenant_count (names_of past)) × (es ≡ [])
 IsOpening past k ask (Err opening.OutOfMemory) es = MayOpen past k ask × (es ≡ [])
 
 -- the next revision of a job is posted where it may be, or is refused: there is no such job, it is closed, it has 256
@@ -99,8 +100,8 @@ abbrev pub IsRevising : List Event → Key → Posted → Result (Unit {0}) Revi
 IsRevising past k r (Ok done) es = (t : KeyedJob) × MayRevise past k (length t.state.revisions + 1) r t × (es ≡ Revise k (length t.state.revisions + 1) r ∷ [])
 IsRevising past k r (Err revising.NoJob) es = (job_of k (states past) ≡ None) × (es ≡ [])
 IsRevising past k r (Err revising.Closed) es = (t : KeyedJob) × (job_of k (states past) ≡ Some t) × (t.state.closed ≡ true) × (es ≡ [])
-IsRevising past k r (Err revising.RevisionsFull) es = (t : KeyedJob) × (job_of k (states past) ≡ Some t) × (t.state.closed ≡ false) × (256 ≤ length t.state.revisions) × (es ≡ [])
-IsRevising past k r (Err (revising.JobFull which)) es = (t : KeyedJob) × (job_of k (states past) ≡ Some t) × (t.state.closed ≡ false) × (length t.state.revisions < 256) × IsOver which t.state.revisions r × (es ≡ [])
+IsRevising past k r (Err revising.RevisionsFull) es = (t : KeyedJob) × (job_of k (states past) ≡ Some t) × (t.state.closed ≡ false) × (limits.revisions ≤ length t.state.revisions) × (es ≡ [])
+IsRevising past k r (Err (revising.JobFull which)) es = (t : KeyedJob) × (job_of k (states past) ≡ Some t) × (t.state.closed ≡ false) × (length t.state.revisions < limits.revisions) × IsOver which t.state.revisions r × (es ≡ [])
 IsRevising past k r (Err revising.OutOfMemory) es = (t : KeyedJob) × MayRevise past k (length t.state.revisions + 1) r t × (es ≡ [])
 
 -- the ask of a job changes where it may, or that is refused: there is no such job, or it is closed
@@ -157,13 +158,13 @@ pub record IsWaiting (workers : ℕ) (past : List Event) (worker : ℕ) (es : Li
   pub due : AreDue workers past es
   pub idle : IsIdle (past ++ es)
 
--- memory was wanting: of what is due some came, and no start
+-- memory ran out: of what is due some came, and no start
 pub record IsWanting (workers : ℕ) (past : List Event) (worker : ℕ) (es : List Event) : Type 0 where
   pub may : MayPick past worker
   pub due : AreDue workers past es
 
 -- a worker picks: it is busy where it has a lease out, all is done where every job is closed and answered and nothing
--- is out, and else it gets the picked node behind what is due, or waits
+-- is out, and else it gets the picked node after what is due, or waits
 abbrev pub IsPicking : ℕ → List Event → ℕ → Result Offer PickFault → List Event → Type 0
 IsPicking workers past worker (Ok (Leased lease)) es = IsStarting workers past worker lease es
 IsPicking workers past worker (Ok Idle) es = IsWaiting workers past worker es
@@ -211,16 +212,16 @@ IsPacking past k (Err packing.OutOfMemory) es = (t : KeyedJob) × MayLeave past 
 -- a job that is not there has the room that its coming wants, as far as the names are concerned
 pub record MayCome (past : List Event) (k : Key) : Type 0 where
   pub absent : job_of k (states past) ≡ None
-  pub tenant_room : list_any (is_key k) (names_of past) ≡ false → jobs_of k.tenant (names_of past) < 64
-  pub hall_room : (jobs_of k.tenant (names_of past) ≡ 0) → tenant_count (names_of past) < 64
+  pub tenant_room : list_any (is_key k) (names_of past) ≡ false → jobs_of k.tenant (names_of past) < limits.jobs_of_tenant
+  pub hall_room : (jobs_of k.tenant (names_of past) ≡ 0) → tenant_count (names_of past) < limits.tenants
 
 -- whether a job has room: it may come, or it is there, or its name is new and its tenant had 64 jobs, or there were 64
--- other tenants; memory is not wanting to it
+-- other tenants; memory does not run out to it
 abbrev pub IsAdmission : List Event → Key → Result (Unit {0}) AdmitFault → Type 0
 IsAdmission past k (Ok done) = MayCome past k
 IsAdmission past k (Err admitting.Present) = (t : KeyedJob) × (job_of k (states past) ≡ Some t)
-IsAdmission past k (Err admitting.TenantFull) = (job_of k (states past) ≡ None) × (list_any (is_key k) (names_of past) ≡ false) × (64 ≤ jobs_of k.tenant (names_of past))
-IsAdmission past k (Err admitting.HallFull) = (job_of k (states past) ≡ None) × (list_any (is_key k) (names_of past) ≡ false) × (jobs_of k.tenant (names_of past) ≡ 0) × (64 ≤ tenant_count (names_of past))
+IsAdmission past k (Err admitting.TenantFull) = (job_of k (states past) ≡ None) × (list_any (is_key k) (names_of past) ≡ false) × (limits.jobs_of_tenant ≤ jobs_of k.tenant (names_of past))
+IsAdmission past k (Err admitting.HallFull) = (job_of k (states past) ≡ None) × (list_any (is_key k) (names_of past) ≡ false) × (jobs_of k.tenant (names_of past) ≡ 0) × (limits.tenants ≤ tenant_count (names_of past))
 IsAdmission past k (Err admitting.OutOfMemory) = ⊥
 
 -- a job is admitted where it may arrive, or is refused where it has no room
@@ -255,7 +256,7 @@ pub record HasCalled (workers : ℕ) (past : List Event) (c : Call) (answer : An
   pub grown : history ≡ past ++ events
   pub call : IsCall workers past c answer events
 
--- whether an answer tells that memory was wanting
+-- whether an answer tells that memory ran out
 abbrev pub wanted : (c : Call) → AnswerTo c → Bool
 wanted (Opens k ask) (Ok done) = false
 wanted (Opens k ask) (Err opening.Duplicate) = false
@@ -292,7 +293,7 @@ wanted (Admits k brought) (Err admitting.HallFull) = false
 wanted (Admits k brought) (Err admitting.OutOfMemory) = true
 wanted (Leaves k) answer = false
 
--- the answer of a call and its events are decided by the history, the call and whether memory was wanting; where it
+-- the answer of a call and its events are decided by the history, the call and whether memory ran out; where it
 -- was, the events of a pick are some of those that are due
 abbrev pub CallIsDecided : Type 0
 CallIsDecided =

@@ -16,7 +16,7 @@ pub data Turn : Type 0 where
   Exchanges : Key → Turn
   Slices : Key → ℕ → Outcome → Turn
 
--- the events of a turn: a slice is a start with its finish behind it
+-- the events of a turn: a slice is a start with its finish after it
 abbrev pub events_in : Turn → List Event
 events_in (Balances shares) = Balance shares ∷ []
 events_in (Exchanges k) = Exchange k ∷ []

@@ -1,6 +1,7 @@
 -- Three live jobs share eight workers, and then the priority of the last one rises.
 use Rattle.std.specs.Prelude.{◌≡◌, ℕ, List, [], ◌∷◌, ◌++◌, map, Some, None}
 use Rattle.std.specs.Option.{option_map}
+use Rattle.mal_base.specs.declared.profile.Profile.TheVariants.{Plain}
 use Rattle.mal_base.specs.Asks.{Terms}
 use Rattle.mal_history.specs.declared.event.Share.{Share}
 use Rattle.spec_balance.specs.Fair.{IsFair}
@@ -18,7 +19,7 @@ key letter = record { tenant = 97 ∷ []; job = letter ∷ [] }
 
 -- an ask of this priority for eight workers
 abbrev pub eight : ℕ → Terms
-eight priority = record { priority = priority; demand = 8; slices = 4; profile = 1 }
+eight priority = record { priority = priority; demand = 8; slices = 4; profile = Plain }
 
 -- a job is opened with this priority and gets a revision
 abbrev pub posted : ℕ → ℕ → List Event

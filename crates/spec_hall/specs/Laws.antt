@@ -86,15 +86,15 @@ SameVolumeLeavesOwn = (j : Key) (history : List Event) (shares : List Share) →
 abbrev pub LegalClausesOwn : Type 0
 LegalClausesOwn = (workers : ℕ) (history : List Event) → Legal workers history → (k : Key) → ClausesAreOwn (solo (own k history))
 
--- a job asks for one worker, as it did at its opening and wherever its ask changed, no start of it wanted for memory, and
--- one node ran it
+-- a job asks for one worker, as it did at its opening and wherever its ask changed, no start of it ran out of memory,
+-- and one node ran it
 pub record AsksForOne (history : List Event) (k : Key) : Type 0 where
   pub demand : (solo (own k history)).ask.demand ≡ 1
   pub always : list_all asks_for_one (own k history) ≡ true
   pub fed : list_all is_fed (own k history) ≡ true
   pub single : list_all is_single (drop 1 (own k history)) ≡ true
 
--- so it is in a legal history where the job never arrived, its demand was always 1 and no start of it wanted for memory
+-- so it is in a legal history where the job never arrived, its demand was always 1 and no start of it ran out of memory
 abbrev pub LegalAsksForOne : Type 0
 LegalAsksForOne =
     (workers : ℕ) (history : List Event) (k : Key) → Legal workers history → list_any (arrives k) history ≡ false

@@ -1,5 +1,6 @@
 use Rattle.std.specs.Prelude.{◌≡◌, ◌≢◌, ℕ, ◌+◌, ◌<◌, ◌≤◌, true, false, ◌==◌, List, [], ◌∷◌, ◌++◌, length, map, find, count_by, slice_get, Option, Some, None, if◌then◌else◌}
 use Rattle.std.specs.List.{list_any}
+use Rattle.mal_base.specs.Limits.{limits}
 use Rattle.mal_base.specs.Asks.{Terms, Weighed, IsAsk, IsWeight}
 use Rattle.mal_base.specs.Names.{is_name}
 use Rattle.mal_history.specs.declared.event.Share.{Share}
@@ -34,8 +35,8 @@ pub record MayOpen (past : List Event) (k : Key) (ask : Terms) : Type 0 where
   pub job : is_name k.job ≡ true
   pub asked : IsAsk ask
   pub fresh : list_any (is_key k) (names_of past) ≡ false
-  pub tenant_room : jobs_of k.tenant (names_of past) < 64
-  pub hall_room : (jobs_of k.tenant (names_of past) ≡ 0) → tenant_count (names_of past) < 64
+  pub tenant_room : jobs_of k.tenant (names_of past) < limits.jobs_of_tenant
+  pub hall_room : (jobs_of k.tenant (names_of past) ≡ 0) → tenant_count (names_of past) < limits.tenants
 
 -- a job that is open may get its next revision, of which there are 256 at most with 2^20 clauses and 2^24 literals
 pub record MayRevise (past : List Event) (k : Key) (number : ℕ) (r : Posted) (t : KeyedJob) : Type 0 where
@@ -43,9 +44,9 @@ pub record MayRevise (past : List Event) (k : Key) (number : ℕ) (r : Posted) (
   pub open_still : t.state.closed ≡ false
   pub posted : is_posted r ≡ true
   pub next : number ≡ length t.state.revisions + 1
-  pub room : number ≤ 256
-  pub clause_room : clauses_in t.state.revisions + length r.clauses ≤ 1048576
-  pub literal_room : literals_in t.state.revisions + literals_of r.clauses ≤ 16777216
+  pub room : number ≤ limits.revisions
+  pub clause_room : clauses_in t.state.revisions + length r.clauses ≤ limits.clauses
+  pub literal_room : literals_in t.state.revisions + literals_of r.clauses ≤ limits.literals
 
 -- a job that is open may change what it asks for to a priority and a demand in form
 pub record MayReask (past : List Event) (k : Key) (w : Weighed) (t : KeyedJob) : Type 0 where
@@ -97,8 +98,8 @@ pub record MayArrive (past : List Event) (k : Key) (brought : List Own) : Type 0
   pub tenant : is_name k.tenant ≡ true
   pub job : is_name k.job ≡ true
   pub absent : job_of k (states past) ≡ None
-  pub tenant_room : list_any (is_key k) (names_of past) ≡ false → jobs_of k.tenant (names_of past) < 64
-  pub hall_room : (jobs_of k.tenant (names_of past) ≡ 0) → tenant_count (names_of past) < 64
+  pub tenant_room : list_any (is_key k) (names_of past) ≡ false → jobs_of k.tenant (names_of past) < limits.jobs_of_tenant
+  pub hall_room : (jobs_of k.tenant (names_of past) ≡ 0) → tenant_count (names_of past) < limits.tenants
   pub lawful : IsLawful brought
   pub home : starts_out (solo brought).places ≡ 0
   pub still : volume_after brought ≡ 0

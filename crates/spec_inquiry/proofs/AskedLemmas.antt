@@ -5,6 +5,7 @@ use Rattle.std.specs.Option.{option_map}
 use Rattle.std.proofs.lemmas.Bool.{and_parts, ltb-false}
 use Rattle.std.proofs.lemmas.List.{length-map, map-append}
 use Rattle.std.proofs.lemmas.Option.{slice_get_cases}
+use Rattle.mal_base.specs.Limits.{limits}
 use Rattle.mal_base.specs.Asks.{Terms}
 use Rattle.mal_base.specs.declared.answer.Answer.{Answer}
 use Rattle.mal_base.specs.declared.hall_fault.OpenFault.{OpenFault}
@@ -12,7 +13,7 @@ use Rattle.mal_base.specs.declared.hall_fault.OpenFault.TheVariants as opening
 use Rattle.mal_base.specs.declared.hall_fault.ReviseFault.{ReviseFault}
 use Rattle.mal_base.specs.declared.hall_fault.ReviseFault.TheVariants as revising
 use Rattle.mal_base.specs.declared.limit_kind.LimitKind.{LimitKind}
-use Rattle.mal_base.specs.declared.limit_kind.LimitKind.TheVariants as limits
+use Rattle.mal_base.specs.declared.limit_kind.LimitKind.TheVariants as kinds
 use Rattle.mal_revision.specs.Posted.{Posted}
 use Rattle.spec_report.specs.Replies.{ReplyBody}
 use Rattle.spec_job.specs.KeyedJob.{Key, KeyedJob}
@@ -37,29 +38,29 @@ use Rattle.spec_inquiry.proofs.StayLemmas.{told-is_evident}
 some-same : {X : Type 0} (x y : X) → ◌≡◌ {A = Option X} (Some x) (Some y) → x ≡ y
 some-same x y e = cc
 
--- in a hall without events a job that is not opened wanted for memory
+-- in a hall without events a job that is not opened ran out of memory
 pub open-wanted : (k : Key) (ask : Terms) (fault : OpenFault) (es : List Event) → IsOpening [] k ask (Err fault) es → wanted (Opens k ask) (Err fault) ≡ true
 open-wanted k ask opening.Duplicate es h = absurd (let bad : false ≡ true = h.0 in cc)
-open-wanted k ask opening.TenantFull es h = absurd (let bad : 64 ≤ 0 = h.1 in omega (arith, bad))
-open-wanted k ask opening.HallFull es h = absurd (let bad : 64 ≤ 0 = h.2 in omega (arith, bad))
+open-wanted k ask opening.TenantFull es h = absurd (let bad : limits.jobs_of_tenant ≤ 0 = h.1 in omega (arith, bad))
+open-wanted k ask opening.HallFull es h = absurd (let bad : limits.tenants ≤ 0 = h.2 in omega (arith, bad))
 open-wanted k ask opening.OutOfMemory es h = refl
 
 pub found-is : (k : Key) (rs : List Posted) (h : List Event) (t : KeyedJob) → IsOpen k rs h → job_of k (states h) ≡ Some t → t ≡ titled h k
 found-is k rs h t is e = some-same t (titled h k) (sym e ∙ open-found k rs h is)
 
 not-over : (which : LimitKind) (rs : List Posted) (r : Posted) → MayAsk rs r → IsOver which rs r → ⊥
-not-over limits.Variables rs r may h = absurd h
-not-over limits.Clauses rs r may h = omega (arith, h, may.clause_room)
-not-over limits.Literals rs r may h = omega (arith, h.1, may.literal_room)
-not-over limits.Tenants rs r may h = absurd h
-not-over limits.Jobs rs r may h = absurd h
-not-over limits.Revisions rs r may h = absurd h
+not-over kinds.Variables rs r may h = absurd h
+not-over kinds.Clauses rs r may h = omega (arith, h, may.clause_room)
+not-over kinds.Literals rs r may h = omega (arith, h.1, may.literal_room)
+not-over kinds.Tenants rs r may h = absurd h
+not-over kinds.Jobs rs r may h = absurd h
+not-over kinds.Revisions rs r may h = absurd h
 
--- nor is a revision of an open job posted where there is room for it but memory was wanting
+-- nor is a revision of an open job posted where there is room for it but memory ran out
 pub revise-wanted : (k : Key) (rs : List Posted) (past : List Event) (r : Posted) (fault : ReviseFault) (es : List Event) → IsOpen k rs past → MayAsk rs r → IsRevising past k r (Err fault) es → wanted (Revises k r) (Err fault) ≡ true
 revise-wanted k rs past r revising.NoJob es is may h = absurd (let bad : None ≡ Some (titled past k) = sym h.0 ∙ open-found k rs past is in cc)
 revise-wanted k rs past r revising.Closed es is may h = absurd (let bad : true ≡ false = sym h.2 ∙ (ap (λ (t : KeyedJob). t.state.closed) (found-is k rs past h.0 is h.1) ∙ is.unclosed) in cc)
-revise-wanted k rs past r revising.RevisionsFull es is may h = absurd (let many : 256 ≤ length rs = subst (λ (ps : List Posted). 256 ≤ length ps) (ap (λ (t : KeyedJob). t.state.revisions) (found-is k rs past h.0 is h.1) ∙ is.posted) h.3 in omega (arith, many, may.room))
+revise-wanted k rs past r revising.RevisionsFull es is may h = absurd (let many : limits.revisions ≤ length rs = subst (λ (ps : List Posted). limits.revisions ≤ length ps) (ap (λ (t : KeyedJob). t.state.revisions) (found-is k rs past h.0 is h.1) ∙ is.posted) h.3 in omega (arith, many, may.room))
 revise-wanted k rs past r (revising.JobFull which) es is may h = absurd (not-over which rs r may (subst (λ (ps : List Posted). IsOver which ps r) (ap (λ (t : KeyedJob). t.state.revisions) (found-is k rs past h.0 is h.1) ∙ is.posted) h.4))
 revise-wanted k rs past r revising.OutOfMemory es is may h = refl
 
@@ -121,7 +122,7 @@ get-last : (xs : List Round) (x : Round) → slice_get (xs ++ x ∷ []) (length 
 get-last [] x = refl
 get-last (y ∷ xs) x = get-last xs x
 
--- the round that came of a revision, of the turns behind it, and of what is told then
+-- the round that came of a revision, of the turns after it, and of what is told then
 pub round-asked : (k : Key) (ask : Terms) (rounds : List Round) (past : List Event) (r : Posted) (told : ReplyBody) (history : List Event) → IsInquiry k ask rounds past → Allowed 1 past (Revise k (suc (length rounds)) r) → GrowsByTurns 1 (past ++ Revise k (suc (length rounds)) r ∷ []) history → IsIdle history → body_of (suc (length rounds)) (solo (own k history)) ≡ Some told → HasAsked k ask rounds (record { revision = r; told = told }) history
 round-asked k ask rounds past r told history i may grows idle e = record {
   turns = grows.turns;

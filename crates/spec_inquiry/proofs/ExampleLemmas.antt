@@ -20,7 +20,7 @@ may-open : MayOpen [] key (ask 1 4)
 may-open = record {
   tenant = refl;
   job = refl;
-  asked = record { some_priority = omega arith; priority_bound = omega arith; some_demand = omega arith; demand_bound = omega arith; some_slices = omega arith; slices_bound = omega arith; some_profile = omega arith; profile_bound = omega arith };
+  asked = record { some_priority = omega arith; priority_bound = omega arith; some_demand = omega arith; demand_bound = omega arith; some_slices = omega arith; slices_bound = omega arith };
   fresh = refl;
   tenant_room = omega arith;
   hall_room = λ none. omega arith;
@@ -85,7 +85,7 @@ became-live past one none same = let many : 1 ≡ 0 = ap count_of (sym (ap Some 
 was-live : (past : List Event) → lives (states past) ≡ [] → balanced past ≡ Some (live ∷ []) → IsBalanceDue past
 was-live past none one same = let many : 0 ≡ 1 = ap count_of (sym (ap Some none) ∙ (same ∙ one)) in absurd (omega (arith, many))
 
--- the events of a round up to a balancing, the slice behind it, and the last balancing
+-- the events of a round up to a balancing, the slice after it, and the last balancing
 abbrev posted : List Event → ℕ → Posted → List Event
 posted past n r = past ++ Revise key n r ∷ []
 

@@ -1,4 +1,4 @@
--- Revisions behind the first that only assume.
+-- Revisions after the first that only assume.
 use Rattle.std.proofs.Common.{◌≡◌, ℕ, zero, suc, ◌+◌, ◌≤◌, List, [], ◌∷◌, ◌++◌, append-nil, length, map, max, take, fold, Option, Some, refl, sym, ap, ap₂, subst, ◌∙◌, arith}
 use Rattle.std.specs.Prelude.{All, slice_get}
 use Rattle.std.specs.Option.{option_map}
@@ -17,6 +17,7 @@ use Rattle.spec_course.specs.Supported.{IsSupported}
 use Rattle.spec_inquiry.specs.Evidence.{IsEvidence, OnlyAssumes, BeginWith}
 use Rattle.spec_inquiry.specs.Laws.{AssumingMayAsk, FirstHasAll, InquiryIsSupported}
 use Rattle.spec_inquiry.specs.Rounds.{Round, asked_in, revisions_in}
+use Rattle.spec_inquiry.specs.Searches.{AsksOnly, StepAssumes}
 use Rattle.spec_inquiry.proofs.StayLemmas.{told-is_evident}
 
 max-same : (v : ℕ) → max v v ≡ v
@@ -91,14 +92,10 @@ assuming-may_ask v cs rs p b only few clauses literals =
       literal_room = omega (arith, first-literals v cs rs b, short, literals);
     }
 
--- where each question behind the first only assumes, so do the revisions of a course
-abbrev pub AsksOnly : {S O : Type 0} → ℕ → Next S O → Type 0
-AsksOnly v (Asks s r) = OnlyAssumes v r
-AsksOnly v (Ends o) = Unit {0}
-
+-- where each question after the first only assumes, so do the revisions of a course
 abbrev pub CourseOnlyAssumes : {S O : Type 0} → (S → ReplyBody → Next S O) → Type 0
 CourseOnlyAssumes {S} {O} step =
-    (v : ℕ) → ((s : S) (told : ReplyBody) → AsksOnly v (step s told))
+    (v : ℕ) → StepAssumes v step
     → (now : Next S O) (asked : List Asked) (end : Next S O) → AsksOnly v now → Leads step now asked end
     → All (OnlyAssumes v) (map (λ x. x.revision) asked)
 
@@ -111,7 +108,7 @@ course-only step v only (Asks s r) (x ∷ xs) end h l =
 abbrev pub CourseBegins : {S O : Type 0} → (S → ReplyBody → Next S O) → Type 0
 CourseBegins {S} {O} step =
     (v : ℕ) (cs : List (Option (List ℕ))) (s : S) (r : Posted) (rounds : List Round) (end : Next S O)
-    → r.variables ≡ v → r.clauses ≡ cs → ((t : S) (told : ReplyBody) → AsksOnly v (step t told))
+    → r.variables ≡ v → r.clauses ≡ cs → StepAssumes v step
     → Leads step (Asks s r) (asked_in rounds) end → BeginWith v cs (revisions_in rounds)
 
 asked-revisions : (xs : List Round) → map (λ (x : Asked). x.revision) (asked_in xs) ≡ revisions_in xs

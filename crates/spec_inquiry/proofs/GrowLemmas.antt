@@ -59,7 +59,7 @@ step-grows s (Started i) = same-grows s (solo_step s (Started i)) refl refl
 step-grows s (Finished i o) = finished-grows s i (place_at s i) (place_at s i).out o
 step-grows s Exchanged = same-grows s (solo_step s Exchanged) refl refl
 
--- a machine is another one behind more events: it has its answers too
+-- a machine is another one after more events: it has its answers too
 pub record IsLater (s t : SoloMachine) : Type 0 where
   pub answers : KeepsAnswers s t
   pub grown : Grows s t

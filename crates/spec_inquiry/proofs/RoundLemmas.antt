@@ -32,7 +32,7 @@ rounds-legal k past n (x ∷ xs) history h l = rounds-legal k (past ++ round_eve
 pub inquiry-is_legal : InquiryIsLegal
 inquiry-is_legal k ask rounds history i = rounds-legal k (Open k ask ∷ []) 1 rounds history i.asked (i.opened, tt)
 
--- rounds take one more behind them
+-- rounds take one more after them
 rounds-grow : (k : Key) (past : List Event) (n : ℕ) (xs : List Round) (history : List Event) (x : Round) → AreRounds k past n xs history → IsRound k history (n + length xs) x → AreRounds k past n (xs ++ x ∷ []) (history ++ round_events k (n + length xs) x)
 rounds-grow k past n [] history x h r =
     let same : n + 0 ≡ n = omega arith in (

@@ -34,7 +34,7 @@ evidence-stays rs more r told h =
       supported = subst (λ (ps : List Posted). IsSupported (variables_of ps) (clauses_of ps) h.revision.assumptions told) (sym front) h.supported;
     }
 
--- of a round, where more revisions are posted behind it
+-- of a round, where more revisions are posted after it
 round-evident : (k : Key) (rs : List Posted) (past : List Event) (x : Round) → IsOpen k rs past → Legal 1 past → IsRound k past (suc (length rs)) x → IsEvidence (rs ++ x.asked.revision ∷ []) (length rs) x.asked.told
 round-evident k rs past x is legal round =
     let now : List Event = past ++ round_events k (suc (length rs)) x in

@@ -27,7 +27,7 @@ use Rattle.spec_inquiry.proofs.GrowLemmas.{IsLater, history-later}
 use Rattle.spec_inquiry.proofs.RoundLemmas.{inquiry-is_legal}
 use Rattle.spec_inquiry.proofs.StayLemmas.{get-front, plus-none, some-same}
 
--- a machine behind more events tells what was told
+-- a machine after more events tells what was told
 machine-tells : (s t : SoloMachine) (n : ℕ) (told : ReplyBody) → MachineInvariant s → MachineInvariant t → IsLater s t → body_of n s ≡ Some told → body_of n t ≡ Some told
 machine-tells s t zero told h k later e = absurd (cc)
 machine-tells s t (suc r) told h k later e =
@@ -62,7 +62,7 @@ turns-bring_none k (Balances shares ∷ ts) = turns-bring_none k ts
 turns-bring_none k (Exchanges i ∷ ts) = turns-bring_none k ts
 turns-bring_none k (Slices i index outcome ∷ ts) = turns-bring_none k ts
 
--- the events behind a past in which rounds were asked, by which no job arrives
+-- the events after a past in which rounds were asked, by which no job arrives
 record IsBehind (k : Key) (past history : List Event) : Type 0 where
   later : List Event
   is : history ≡ past ++ later

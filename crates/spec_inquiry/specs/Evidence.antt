@@ -18,7 +18,7 @@ pub record OnlyAssumes (variables : ℕ) (revision : Posted) : Type 0 where
   pub has_variables : revision.variables ≡ variables
   pub has_none : revision.clauses ≡ []
 
--- the first revision has these variables and clauses, and those behind it only assume
+-- the first revision has these variables and clauses, and those after it only assume
 abbrev pub BeginWith : ℕ → List (Option (List ℕ)) → List Posted → Type 0
 BeginWith variables clauses [] = Unit {0}
 BeginWith variables clauses (p ∷ ps) = (p.variables ≡ variables) × (p.clauses ≡ clauses) × All (OnlyAssumes variables) ps

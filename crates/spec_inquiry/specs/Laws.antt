@@ -1,6 +1,7 @@
 -- What holds of inquiries, in the form in which the law functions state it.
 use Rattle.std.specs.Prelude.{◌≡◌, ℕ, suc, ◌<◌, ◌≤◌, false, List, [], ◌∷◌, ◌++◌, length, Option, Some, slice_get}
 use Rattle.std.specs.List.{list_any}
+use Rattle.mal_base.specs.Limits.{limits}
 use Rattle.mal_base.specs.Asks.{Terms}
 use Rattle.mal_base.specs.Formulas.{literals_of}
 use Rattle.mal_revision.specs.Posted.{Posted}
@@ -34,7 +35,7 @@ InquiryIsOpen =
     (k : Key) (ask : Terms) (rounds : List Round) (history : List Event) → IsInquiry k ask rounds history
     → IsOpen k (revisions_in rounds) history
 
--- it takes one more round behind it
+-- it takes one more round after it
 abbrev pub InquiryGrows : Type 0
 InquiryGrows =
     (k : Key) (ask : Terms) (rounds : List Round) (history : List Event) (x : Round) → IsInquiry k ask rounds history
@@ -59,7 +60,7 @@ ToldStays =
     (k : Key) (ask : Terms) (rounds : List Round) (history : List Event) (r : ℕ) (x : Round) → IsInquiry k ask rounds history
     → slice_get rounds r ≡ Some x → body_of (suc r) (solo (own k history)) ≡ Some x.asked.told
 
--- where the revisions behind the first only assume, each has the variables and the clauses of the first
+-- where the revisions after the first only assume, each has the variables and the clauses of the first
 abbrev pub FirstHasAll : Type 0
 FirstHasAll =
     (variables : ℕ) (clauses : List (Option (List ℕ))) (revisions : List Posted) (r : ℕ) → BeginWith variables clauses revisions
@@ -72,9 +73,9 @@ InquiryIsSupported =
     → IsInquiry k ask rounds history → BeginWith variables clauses (revisions_in rounds)
     → AreSupported variables clauses (asked_in rounds)
 
--- and there is room for a revision that only assumes behind fewer than 256
+-- and there is room for a revision that only assumes after fewer than 256
 abbrev pub AssumingMayAsk : Type 0
 AssumingMayAsk =
     (variables : ℕ) (clauses : List (Option (List ℕ))) (revisions : List Posted) (revision : Posted)
     → BeginWith variables clauses revisions → OnlyAssumes variables revision
-    → length revisions < 256 → length clauses ≤ 1048576 → literals_of clauses ≤ 16777216 → MayAsk revisions revision
+    → length revisions < limits.revisions → length clauses ≤ limits.clauses → literals_of clauses ≤ limits.literals → MayAsk revisions revision

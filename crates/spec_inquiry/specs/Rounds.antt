@@ -16,11 +16,11 @@ pub record Round : Type 0 where
   pub asked : Asked
   pub turns : List Turn
 
--- the events of the round of this number: its revision, and the turns behind it, each start with its finish
+-- the events of the round of this number: its revision, and the turns after it, each start with its finish
 abbrev pub round_events : Key → ℕ → Round → List Event
 round_events k n x = Revise k n x.asked.revision ∷ flat_map events_in x.turns
 
--- behind a past comes the round of this number: its revision may be posted, turns of the one worker follow until no node
+-- after a past comes the round of this number: its revision may be posted, turns of the one worker follow until no node
 -- may start, and this is what the job's machine tells of the revision then
 pub record IsRound (k : Key) (past : List Event) (n : ℕ) (x : Round) : Type 0 where
   pub posted : Allowed 1 past (Revise k n x.asked.revision)
@@ -28,7 +28,7 @@ pub record IsRound (k : Key) (past : List Event) (n : ℕ) (x : Round) : Type 0 
   pub idle : IsIdle (past ++ round_events k n x)
   pub told : body_of n (solo (own k (past ++ round_events k n x))) ≡ Some x.asked.told
 
--- rounds, one behind the other, of which the first has this number
+-- rounds, one after the other, of which the first has this number
 abbrev pub AreRounds : Key → List Event → ℕ → List Round → List Event → Type 0
 AreRounds k past n [] history = history ≡ past
 AreRounds k past n (x ∷ xs) history = IsRound k past n x × AreRounds k (past ++ round_events k n x) (suc n) xs history

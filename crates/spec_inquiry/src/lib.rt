@@ -24,7 +24,7 @@ pub fn told_stays()
     ensures told { ToldStays }
 {}
 
-/// Where the revisions behind the first only assume, all have the variables and the clauses of the first, there is room
+/// Where the revisions after the first only assume, all have the variables and the clauses of the first, there is room
 /// for 256 of them, and what is told has its evidence of these clauses.
 pub fn first_has_all()
     ensures first { FirstHasAll }

@@ -2,6 +2,7 @@
 use Rattle.std.proofs.Common.{◌≡◌, ℕ, zero, suc, ◌-◌, ◌<◌, ◌≤◌, List, ◌++◌, Some, None, inl, inr, ◌⊎◌, sym, ◌∙◌, ap, subst, arith}
 use Rattle.std.specs.Prelude.{slice_get}
 use Rattle.std.proofs.lemmas.Bool.{cases_lt}
+use Rattle.mal_base.specs.declared.profile.Profile.{Profile}
 use Rattle.mal_base.specs.NumberedClause.{Line}
 use Rattle.mal_base.specs.declared.answer.Answer.{Answer}
 use Rattle.mal_base.specs.declared.answer.Answer.TheVariants.{Refuted}
@@ -25,7 +26,7 @@ agree-same c xs ys h k r a b e f = by_given (h.given r a e) (k.given r b f)
     by_given (inr (goal, p, i)) (inr (other, q, j)) = let same : goal ≡ other = cc in i ∙ (ap (λ (g : ℕ). Refuted g) same ∙ sym j)
 
 -- answers of a course and of a longer one agree
-agree-later : (profile slices : ℕ) (revisions : List Posted) (n k : ℕ) (xs ys : List Answer) → WentOn profile slices revisions (beyond (suc k) n) → ComeFrom (course profile slices revisions n) xs → ComeFrom (course profile slices revisions (beyond (suc k) n)) ys → Agree xs ys
+agree-later : (profile : Profile) (slices : ℕ) (revisions : List Posted) (n k : ℕ) (xs ys : List Answer) → WentOn profile slices revisions (beyond (suc k) n) → ComeFrom (course profile slices revisions n) xs → ComeFrom (course profile slices revisions (beyond (suc k) n)) ys → Agree xs ys
 agree-later profile slices revisions n k xs ys w h m r a b e f = by_given (h.given r a e)
   where
     on : GoesOn revisions (course profile slices revisions n)
@@ -35,12 +36,12 @@ agree-later profile slices revisions n k xs ys w h m r a b e f = by_given (h.giv
     by_given (inl p) = let there : slice_get ys r ≡ Some a = m.kept r a (course-answers profile slices revisions n (suc k) r a p) in cc
     by_given (inr (goal, p, i)) = absurd (let bad : None ≡ Some goal = sym on.open_yet ∙ p in cc)
 
-agree-by : (profile slices : ℕ) (revisions : List Posted) (n k : ℕ) (xs ys : List Answer) → WentOn profile slices revisions (beyond k n) → ComeFrom (course profile slices revisions n) xs → ComeFrom (course profile slices revisions (beyond k n)) ys → Agree xs ys
+agree-by : (profile : Profile) (slices : ℕ) (revisions : List Posted) (n k : ℕ) (xs ys : List Answer) → WentOn profile slices revisions (beyond k n) → ComeFrom (course profile slices revisions n) xs → ComeFrom (course profile slices revisions (beyond k n)) ys → Agree xs ys
 agree-by profile slices revisions n zero xs ys w h m = agree-same (course profile slices revisions n) xs ys h m
 agree-by profile slices revisions n (suc k) xs ys w h m = agree-later profile slices revisions n k xs ys w h m
 
 -- whichever course is the longer one
-pub courses-agree : (profile slices : ℕ) (revisions : List Posted) (n m : ℕ) (xs ys : List Answer) → WentOn profile slices revisions n → WentOn profile slices revisions m → ComeFrom (course profile slices revisions n) xs → ComeFrom (course profile slices revisions m) ys → (n ≤ m) ⊎ (m < n) → Agree xs ys
+pub courses-agree : (profile : Profile) (slices : ℕ) (revisions : List Posted) (n m : ℕ) (xs ys : List Answer) → WentOn profile slices revisions n → WentOn profile slices revisions m → ComeFrom (course profile slices revisions n) xs → ComeFrom (course profile slices revisions m) ys → (n ≤ m) ⊎ (m < n) → Agree xs ys
 courses-agree profile slices revisions n m xs ys v w h k (inl low) =
     let sum : m ≡ beyond (m - n) n = beyond-gap n m low in
     agree-by profile slices revisions n (m - n) xs ys (subst (λ (x : ℕ). WentOn profile slices revisions x) sum w) h (subst (λ (x : ℕ). ComeFrom (course profile slices revisions x) ys) sum k)
@@ -59,12 +60,12 @@ le-or_lt n m = by_order (cases_lt m n)
 abbrev pub IsFront : List Line → List Line → Type 0
 IsFront xs ys = (lines : List Line) × (ys ≡ xs ++ lines)
 
-front-by : (profile slices : ℕ) (revisions : List Posted) (n m : ℕ) (xs ys : List Line) → xs ≡ (course profile slices revisions n).log → ys ≡ (course profile slices revisions m).log → n ≤ m → IsFront xs ys
+front-by : (profile : Profile) (slices : ℕ) (revisions : List Posted) (n m : ℕ) (xs ys : List Line) → xs ≡ (course profile slices revisions n).log → ys ≡ (course profile slices revisions m).log → n ≤ m → IsFront xs ys
 front-by profile slices revisions n m xs ys a b low = by_log (course-log profile slices revisions n (m - n))
   where
     by_log : (lines : List Line) × ((course profile slices revisions (beyond (m - n) n)).log ≡ (course profile slices revisions n).log ++ lines) → IsFront xs ys
     by_log (lines, e) = (lines, b ∙ (ap (λ (k : ℕ). (course profile slices revisions k).log) (beyond-gap n m low) ∙ (e ∙ ap (λ (ls : List Line). ls ++ lines) (sym a))))
 
-pub courses-logs : (profile slices : ℕ) (revisions : List Posted) (n m : ℕ) (xs ys : List Line) → xs ≡ (course profile slices revisions n).log → ys ≡ (course profile slices revisions m).log → (n ≤ m) ⊎ (m < n) → IsFront xs ys ⊎ IsFront ys xs
+pub courses-logs : (profile : Profile) (slices : ℕ) (revisions : List Posted) (n m : ℕ) (xs ys : List Line) → xs ≡ (course profile slices revisions n).log → ys ≡ (course profile slices revisions m).log → (n ≤ m) ⊎ (m < n) → IsFront xs ys ⊎ IsFront ys xs
 courses-logs profile slices revisions n m xs ys a b (inl low) = inl (front-by profile slices revisions n m xs ys a b low)
 courses-logs profile slices revisions n m xs ys a b (inr low) = inr (front-by profile slices revisions m n ys xs b a (omega arith))

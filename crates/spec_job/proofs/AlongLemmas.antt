@@ -2,6 +2,7 @@
 use Rattle.std.proofs.Common.{◌≡◌, ℕ, zero, suc, ◌+◌, ◌-◌, ◌<◌, ◌≤◌, List, [], ◌∷◌, ◌++◌, length, map, drop, get_or, replicate, Option, Some, None, inl, inr, ◌⊎◌, refl, sym, ◌∙◌, ap, subst, arith, length-append}
 use Rattle.std.specs.Prelude.{slice_get, slice_set}
 use Rattle.std.proofs.lemmas.List.{length-replicate, length-set}
+use Rattle.mal_base.specs.declared.profile.Profile.{Profile}
 use Rattle.mal_base.specs.Asks.{Terms}
 use Rattle.mal_base.specs.declared.answer.Answer.{Answer}
 use Rattle.mal_base.specs.declared.answer.Answer.TheVariants.{Refuted}
@@ -38,7 +39,7 @@ pub record IsSettled (s : SoloMachine) (c : Course) (goal : ℕ) : Type 0 where
   pub come : ComeFrom c s.answers
 
 -- a job that one node runs alone: its terms, its volume, nothing is told, and no place but the first is out
-pub record IsAlone (profile slices : ℕ) (ask : Terms) (volume : ℕ) (broadcasts : List (List NumberedClause)) (places : List NodeSlot) : Type 0 where
+pub record IsAlone (profile : Profile) (slices : ℕ) (ask : Terms) (volume : ℕ) (broadcasts : List (List NumberedClause)) (places : List NodeSlot) : Type 0 where
   pub budget : ask.slices ≡ slices
   pub solvers : ask.profile ≡ profile
   pub low : volume ≤ 1
@@ -46,16 +47,16 @@ pub record IsAlone (profile slices : ℕ) (ask : Terms) (volume : ℕ) (broadcas
   pub some : 1 ≤ length places
   pub others : (i : ℕ) → (get_or places (suc i) vacant).out ≡ None
 
-abbrev pub IsAloneSolo : ℕ → ℕ → SoloMachine → Type 0
+abbrev pub IsAloneSolo : Profile → ℕ → SoloMachine → Type 0
 IsAloneSolo profile slices s = IsAlone profile slices s.ask s.volume s.broadcasts s.places
 
 -- a machine whose one node has run so many slices of its course
-pub record IsAlong (profile slices : ℕ) (s : SoloMachine) (n : ℕ) : Type 0 where
+pub record IsAlong (profile : Profile) (slices : ℕ) (s : SoloMachine) (n : ℕ) : Type 0 where
   pub alone : IsAloneSolo profile slices s
   pub went : WentOn profile slices s.revisions n
   pub stands : IsOpen s (course profile slices s.revisions n) ⊎ ((goal : ℕ) × IsSettled s (course profile slices s.revisions n) goal)
 
--- answers of a course, and those of an empty clause behind them
+-- answers of a course, and those of an empty clause after them
 pub come-itself : (c : Course) → ComeFrom c c.answers
 come-itself c = record { kept = λ r a e. e; given = λ r a e. inl e }
 
@@ -83,13 +84,13 @@ unfolding lease-with
 start-next s c unexported same = ap (lease-with s) (no-imports (imports_in (place_at s 0).entries) s.broadcasts unexported) ∙ ap (lease_from s.revisions) same
 
 -- the machine stands at the end of a slice, before what an empty clause answers
-pub record IsThere (profile slices : ℕ) (t : SoloMachine) (n : ℕ) : Type 0 where
+pub record IsThere (profile : Profile) (slices : ℕ) (t : SoloMachine) (n : ℕ) : Type 0 where
   pub alone : IsAloneSolo profile slices t
   pub went : WentOn profile slices t.revisions n
   pub same : course_of t ≡ course profile slices t.revisions n
   pub idle : (place_at t 0).out ≡ None
 
-pub there-settled : (profile slices n : ℕ) (t : SoloMachine) (o : Option ℕ) → first_empty t.log ≡ o → length (settled_by o t).answers ≤ length t.revisions → IsThere profile slices t n → IsAlong profile slices (settled_by o t) n
+pub there-settled : (profile : Profile) (slices n : ℕ) (t : SoloMachine) (o : Option ℕ) → first_empty t.log ≡ o → length (settled_by o t).answers ≤ length t.revisions → IsThere profile slices t n → IsAlong profile slices (settled_by o t) n
 there-settled profile slices n t None e order h = record {
   alone = h.alone;
   went = h.went;
@@ -119,7 +120,7 @@ set-others : (ps : List NodeSlot) (q : NodeSlot) (i : ℕ) → get_or (slice_set
 set-others [] q i = refl
 set-others (p ∷ ps) q i = refl
 
-pub alone-set : (profile slices : ℕ) (s : SoloMachine) (q : NodeSlot) → IsAloneSolo profile slices s → IsAlone profile slices s.ask s.volume s.broadcasts (slice_set s.places 0 q)
+pub alone-set : (profile : Profile) (slices : ℕ) (s : SoloMachine) (q : NodeSlot) → IsAloneSolo profile slices s → IsAlone profile slices s.ask s.volume s.broadcasts (slice_set s.places 0 q)
 alone-set profile slices s q h = record {
   budget = h.budget;
   solvers = h.solvers;
@@ -133,7 +134,7 @@ pub set-first : (ps : List NodeSlot) (q : NodeSlot) → 1 ≤ length ps → get_
 set-first ps q h = set-here ps 0 q (omega arith)
 
 -- a start of the one node
-pub started-along : (profile slices n : ℕ) (s : SoloMachine) → length s.answers < length s.revisions → IsAlong profile slices s n → IsAlong profile slices (solo_step s (Started 0)) n
+pub started-along : (profile : Profile) (slices n : ℕ) (s : SoloMachine) → length s.answers < length s.revisions → IsAlong profile slices s n → IsAlong profile slices (solo_step s (Started 0)) n
 started-along profile slices n s live h = record {
   alone = alone-set profile slices s q h.alone;
   went = h.went;

@@ -2,6 +2,7 @@
 use Rattle.std.proofs.Common.{◌≡◌, ℕ, ◌+◌, ◌<◌, ◌≤◌, Bool, true, false, cond, ◌==◌, List, [], ◌∷◌, ◌++◌, length, get_or, Option, Some, None, inl, inr, ◌⊎◌, refl, sym, ◌∙◌, subst, arith, length-append}
 use Rattle.std.specs.Prelude.{slice_set, ◌-◌, replicate}
 use Rattle.std.proofs.lemmas.Bool.{ltb-true}
+use Rattle.mal_base.specs.declared.profile.Profile.{Profile}
 use Rattle.mal_base.specs.Asks.{Terms}
 use Rattle.mal_base.specs.declared.answer.Answer.{Answer}
 use Rattle.mal_base.specs.declared.answer.Answer.TheVariants.{Satisfied, Refuted, Spent, OutOfStarts}
@@ -22,16 +23,16 @@ use Rattle.spec_job.proofs.SolvedLemmas.{home-ready, idle-solving, lease-solving
 use Rattle.spec_job.proofs.DerivingLemmas.{AreCalm, AreEarly}
 
 -- nodes stay calm: while the current revision is the same, and where it is another one
-early-of : (profile : ℕ) (revisions : List Posted) (answers : List Answer) (places : List NodeSlot) → IsSolving profile revisions answers places → AreEarly (length answers) places
+early-of : (profile : Profile) (revisions : List Posted) (answers : List Answer) (places : List NodeSlot) → IsSolving profile revisions answers places → AreEarly (length answers) places
 early-of profile revisions answers places h i low = (h.ready i low).early
 
-calm-later : (profile c d : ℕ) (places : List NodeSlot) → c ≤ d → AreEarly c places → AreCalm profile c places → AreCalm profile d places
+calm-later : (profile : Profile) (c d : ℕ) (places : List NodeSlot) → c ≤ d → AreEarly c places → AreCalm profile c places → AreCalm profile d places
 calm-later profile c d places up early h i low e = let a : loads_in (get_or places i vacant).entries ≤ c + 1 = early i low in h i low (omega arith)
 
-calm-next : (profile c d : ℕ) (places : List NodeSlot) → c < d → AreEarly c places → AreCalm profile d places
+calm-next : (profile : Profile) (c d : ℕ) (places : List NodeSlot) → c < d → AreEarly c places → AreCalm profile d places
 calm-next profile c d places up early i low e = let a : loads_in (get_or places i vacant).entries ≤ c + 1 = early i low in absurd (omega arith)
 
-calm-placed : (profile c i : ℕ) (places : List NodeSlot) (p : NodeSlot) → (i ≤ 63 → loads_in p.entries ≡ c + 1 → (replay profile i p.entries).node.verdict ≡ None) → AreCalm profile c places → AreCalm profile c (slice_set places i p)
+calm-placed : (profile : Profile) (c i : ℕ) (places : List NodeSlot) (p : NodeSlot) → (i ≤ 63 → loads_in p.entries ≡ c + 1 → (replay profile i p.entries).node.verdict ≡ None) → AreCalm profile c places → AreCalm profile c (slice_set places i p)
 calm-placed profile c i places p k h j low = by_place (set-place places i j p)
   where
     by_place : ((j ≡ i) × (get_or (slice_set places i p) j vacant ≡ p)) ⊎ (get_or (slice_set places i p) j vacant ≡ get_or places j vacant) → loads_in (get_or (slice_set places i p) j vacant).entries ≡ c + 1 → (replay profile j (get_or (slice_set places i p) j vacant).entries).node.verdict ≡ None

@@ -3,6 +3,7 @@ use Rattle.std.proofs.Common.{◌≡◌, ℕ, zero, suc, ◌+◌, ◌*◌, ◌<�
 use Rattle.std.specs.Prelude.{All, slice_set}
 use Rattle.std.proofs.lemmas.List.Elements.{All-head, All-tail}
 use Rattle.std.proofs.lemmas.List.Sums.{fold_push, fold-append, sum_by-append, sum_by-cons}
+use Rattle.mal_base.specs.declared.profile.Profile.{Profile}
 use Rattle.mal_base.specs.NumberedClause.{NumberedClause}
 use Rattle.mal_revision.specs.Posted.{Posted}
 use Rattle.spec_node.specs.State.{Node, fresh_with}
@@ -74,7 +75,7 @@ loads-counted [] first all runs s h = h
 loads-counted (r ∷ rs) first all runs s h = loads-counted rs (first + length r.clauses) all runs (after_entry s (Load r first)) (record { serial = h.serial; conflicts_since_restart = h.conflicts_since_restart; restart_number = h.restart_number; conflicts_since_dropping = h.conflicts_since_dropping })
 
 -- a node with what it lacks loaded and imported
-pub ready-counted : (profile : ℕ) (entries : List JournalEntry) (i all runs first : ℕ) (rs : List Posted) (tolds : List (List NumberedClause)) → All (All (IsLow all)) tolds → HasCounts all runs (replay profile i entries).node → HasCounts all runs (replay profile i (entries ++ (loads_of first rs ++ map Import tolds))).node
+pub ready-counted : (profile : Profile) (entries : List JournalEntry) (i all runs first : ℕ) (rs : List Posted) (tolds : List (List NumberedClause)) → All (All (IsLow all)) tolds → HasCounts all runs (replay profile i entries).node → HasCounts all runs (replay profile i (entries ++ (loads_of first rs ++ map Import tolds))).node
 ready-counted profile entries i all runs first rs tolds low h =
     let start : Sliced = record { node = fresh_with i profile; lines = [] } in
     let same : replay profile i (entries ++ (loads_of first rs ++ map Import tolds)) ≡ fold after_entry (fold after_entry (replay profile i entries) (loads_of first rs)) (map Import tolds) = fold-append after_entry start entries (loads_of first rs ++ map Import tolds) ∙ fold-append after_entry (replay profile i entries) (loads_of first rs) (map Import tolds) in
@@ -87,11 +88,11 @@ index-after (Load r first ∷ es) s = index-after es (after_entry s (Load r firs
 index-after (Import told ∷ es) s = index-after es (after_entry s (Import told)) ∙ import-holds.index told s.node
 index-after (Run ∷ es) s = index-after es (after_entry s Run) ∙ (slice-leaves s.node).index
 
-pub replay-index : (profile i : ℕ) (entries : List JournalEntry) → (replay profile i entries).node.index ≡ i
+pub replay-index : (profile : Profile) (i : ℕ) (entries : List JournalEntry) → (replay profile i entries).node.index ≡ i
 replay-index profile i entries = index-after entries (record { node = fresh_with i profile; lines = [] })
 
 -- the last entry of a journal runs its slice
-pub replay-runs : (profile i : ℕ) (entries before : List JournalEntry) → replay profile i (entries ++ (before ++ Run ∷ [])) ≡ slice (replay profile i (entries ++ before)).node
+pub replay-runs : (profile : Profile) (i : ℕ) (entries before : List JournalEntry) → replay profile i (entries ++ (before ++ Run ∷ [])) ≡ slice (replay profile i (entries ++ before)).node
 replay-runs profile i entries before = ap (replay profile i) (sym (append_assoc entries before (Run ∷ []))) ∙ fold_push after_entry (record { node = fresh_with i profile; lines = [] }) (entries ++ before) Run
 
 -- the slices of all places, where one place is set

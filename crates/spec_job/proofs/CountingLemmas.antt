@@ -2,6 +2,7 @@
 use Rattle.std.proofs.Common.{◌≡◌, ℕ, suc, ◌+◌, ◌-◌, ◌*◌, ◌/◌, ◌<◌, ◌≤◌, ◌^◌, List, [], ◌∷◌, ◌++◌, length, Option, Some, None, inl, inr, ◌⊎◌, refl, sym, ◌∙◌, ap, subst, arith}
 use Rattle.std.specs.Prelude.{All, slice_set}
 use Rattle.std.proofs.lemmas.List.Elements.{All-nil, All-cons, All-append, All-weaker}
+use Rattle.mal_base.specs.declared.profile.Profile.{Profile}
 use Rattle.mal_base.specs.NumberedClause.{NumberedClause, Line}
 use Rattle.mal_base.specs.declared.verdict.Outcome.{Outcome}
 use Rattle.spec_exchange.specs.Exchange.{broadcast}
@@ -9,7 +10,8 @@ use Rattle.spec_node.specs.State.{Node}
 use Rattle.spec_search.specs.Slice.{Sliced, slice}
 use Rattle.spec_search.specs.Laws.{IsCounted, AreNumbered}
 use Rattle.spec_search.proofs.LineLemmas.{lines-counted}
-use Rattle.spec_proof.proofs.Among.{Among, among-append}
+use Rattle.spec_proof.specs.Among.{Among}
+use Rattle.spec_proof.proofs.Among.{among-append}
 use Rattle.spec_job.specs.Journal.{JournalEntry, replay}
 use Rattle.spec_job.specs.SoloMachine.{Own, Opened, Revised, Reasked, Closed, Volume, Started, Finished, Exchanged, Lease, NodeSlot, SoloMachine, unopened, solo, solo_step, place_at, first_empty, settled_by, finished, exports_from, exchanged}
 use Rattle.spec_job.specs.Counts.{runs_in, runs_of, HasCounts, PlaceCounts, ReplaysCount}
@@ -17,7 +19,7 @@ use Rattle.spec_job.proofs.PushLemmas.{events-keep}
 use Rattle.spec_job.proofs.FinishLemmas.{settled-leaves, finished-leaves}
 use Rattle.spec_job.proofs.PlacesLemmas.{marked-length, all-marked, get-vacant, out-within}
 use Rattle.spec_job.proofs.CountLemmas.{IsLow, slice-counted, replay-index, replay-runs, runs-set, runs-marked}
-use Rattle.spec_job.proofs.LinesLemmas.{IsOfLine}
+use Rattle.spec_search.specs.Covering.{IsOfLine}
 use Rattle.spec_job.proofs.ImportingLemmas.{clause_of}
 use Rattle.spec_job.proofs.ExportLemmas.{All-broadcast, all-exports}
 use Rattle.spec_job.proofs.LowLemmas.{adds-run, IsOutLow, IsPlaceLow, AreLow, IsLowSolo, set-low, numbered-low, start-ready, started-low, idle-low}
@@ -59,7 +61,7 @@ home-low s i l out h = subst (λ (n : ℕ). AreLow n (slice_set s.places i q) (s
     total : runs_of (slice_set s.places i q) ≡ all + 1
     total = runs-set s.places i 1 q within more
 
-    counts : (profile : ℕ) → HasCounts (all + 1) (runs_in (p.entries ++ l.adds)) (replay profile i (p.entries ++ l.adds)).node
+    counts : (profile : Profile) → HasCounts (all + 1) (runs_in (p.entries ++ l.adds)) (replay profile i (p.entries ++ l.adds)).node
     counts profile =
         let before : Node = (replay profile i (p.entries ++ is.before)).node in
         let sliced : HasCounts (suc all) (suc (runs_in p.entries)) (slice before).node = slice-counted all (runs_in p.entries) before (is.counts profile) in

@@ -2,6 +2,7 @@
 use Rattle.std.proofs.Common.{◌≡◌, ℕ, zero, suc, ◌+◌, ◌-◌, ◌<◌, ◌≤◌, Bool, true, false, cond, ◌==◌, List, [], ◌∷◌, ◌++◌, length, take, drop, Option, Some, None, refl, sym, ◌∙◌, ap, subst, arith, append_assoc, append-nil, length-append}
 use Rattle.std.specs.Prelude.{slice_get}
 use Rattle.std.proofs.lemmas.List.{take-append-le}
+use Rattle.mal_base.specs.declared.profile.Profile.{Profile}
 use Rattle.mal_base.specs.NumberedClause.{Line}
 use Rattle.mal_base.specs.declared.answer.Answer.{Answer}
 use Rattle.mal_base.specs.declared.answer.Answer.TheVariants.{Satisfied, Refuted, Spent}
@@ -34,15 +35,15 @@ concluded (Some (Unsatisfiable goal)) n slices c = with_answer c (Refuted goal)
 abbrev pub next_adds : List Posted → Course → List JournalEntry
 next_adds revisions c = let n = loads_in c.entries in loads_of (clauses_in (take n revisions) + 1) (take (length c.answers + 1 - n) (drop n revisions)) ++ Run ∷ []
 
-abbrev pub ran_on : ℕ → ℕ → List JournalEntry → Course → Course
+abbrev pub ran_on : Profile → ℕ → List JournalEntry → Course → Course
 ran_on profile slices adds c = let ran = replay profile 0 (c.entries ++ adds) in concluded ran.node.verdict ran.node slices (record c { entries = c.entries ++ adds; log = c.log ++ ran.lines })
 
 -- one more slice
-abbrev pub next : ℕ → ℕ → List Posted → Course → Course
+abbrev pub next : Profile → ℕ → List Posted → Course → Course
 next profile slices revisions c = ran_on profile slices (next_adds revisions c) c
 
 -- the course after so many slices
-abbrev pub course : ℕ → ℕ → List Posted → ℕ → Course
+abbrev pub course : Profile → ℕ → List Posted → ℕ → Course
 course profile slices revisions zero = record { entries = []; log = []; answers = []; spent = 0 }
 course profile slices revisions (suc n) = next profile slices revisions (course profile slices revisions n)
 
@@ -53,7 +54,7 @@ pub record GoesOn (revisions : List Posted) (c : Course) : Type 0 where
   pub open_yet : first_empty c.log ≡ None
 
 -- each of so many slices went on
-abbrev pub WentOn : ℕ → ℕ → List Posted → ℕ → Type 0
+abbrev pub WentOn : Profile → ℕ → List Posted → ℕ → Type 0
 WentOn profile slices revisions zero = Unit {0}
 WentOn profile slices revisions (suc n) = WentOn profile slices revisions n × GoesOn revisions (course profile slices revisions n)
 
@@ -77,7 +78,7 @@ adds-more revisions more c live loaded =
     let back : take m (drop n (revisions ++ more)) ≡ take m (drop n revisions) = ap (λ (ps : List Posted). take m ps) (drop-append n revisions more loaded) ∙ take-append-le m (drop n revisions) more (omega arith) in
     ap (λ (ps : List Posted). loads_of (clauses_in ps + 1) (take m (drop n (revisions ++ more))) ++ Run ∷ []) front ∙ ap (λ (ps : List Posted). loads_of (clauses_in (take n revisions) + 1) ps ++ Run ∷ []) back
 
-pub course-more : (profile slices : ℕ) (revisions more : List Posted) (n : ℕ) → WentOn profile slices revisions n → course profile slices (revisions ++ more) n ≡ course profile slices revisions n
+pub course-more : (profile : Profile) (slices : ℕ) (revisions more : List Posted) (n : ℕ) → WentOn profile slices revisions n → course profile slices (revisions ++ more) n ≡ course profile slices revisions n
 course-more profile slices revisions more zero w = refl
 course-more profile slices revisions more (suc n) w =
     let c : Course = course profile slices revisions n in
@@ -89,7 +90,7 @@ on-more revisions more c h =
     let sum : length (revisions ++ more) ≡ length revisions + length more = length-append revisions more in
     record { live = omega (arith, h.live); loaded = omega (arith, h.loaded); open_yet = h.open_yet }
 
-pub went-more : (profile slices : ℕ) (revisions more : List Posted) (n : ℕ) → WentOn profile slices revisions n → WentOn profile slices (revisions ++ more) n
+pub went-more : (profile : Profile) (slices : ℕ) (revisions more : List Posted) (n : ℕ) → WentOn profile slices revisions n → WentOn profile slices (revisions ++ more) n
 went-more profile slices revisions more zero w = tt
 went-more profile slices revisions more (suc n) w = (went-more profile slices revisions more n w.0, subst (λ (c : Course). GoesOn (revisions ++ more) c) (sym (course-more profile slices revisions more n w.0)) (on-more revisions more (course profile slices revisions n) w.1))
 
@@ -106,7 +107,7 @@ pub beyond-gap : (n m : ℕ) → n ≤ m → m ≡ beyond (m - n) n
 beyond-gap n m low = let sum : beyond (m - n) n ≡ (m - n) + n = beyond-sum (m - n) n in omega arith
 
 -- a course goes on before each later slice
-pub went-before : (profile slices : ℕ) (revisions : List Posted) (n k : ℕ) → WentOn profile slices revisions (beyond (suc k) n) → GoesOn revisions (course profile slices revisions n)
+pub went-before : (profile : Profile) (slices : ℕ) (revisions : List Posted) (n k : ℕ) → WentOn profile slices revisions (beyond (suc k) n) → GoesOn revisions (course profile slices revisions n)
 went-before profile slices revisions n zero w = w.1
 went-before profile slices revisions n (suc k) w = went-before profile slices revisions n k w.0
 
@@ -121,14 +122,14 @@ concluded-leaves P more counted (Some Satisfiable) n slices c h = more c (Satisf
 concluded-leaves P more counted (Some (Unsatisfiable goal)) n slices c h = more c (Refuted goal) h
 
 -- answers and lines stay
-pub course-answers : (profile slices : ℕ) (revisions : List Posted) (n k r : ℕ) (a : Answer) → slice_get (course profile slices revisions n).answers r ≡ Some a → slice_get (course profile slices revisions (beyond k n)).answers r ≡ Some a
+pub course-answers : (profile : Profile) (slices : ℕ) (revisions : List Posted) (n k r : ℕ) (a : Answer) → slice_get (course profile slices revisions n).answers r ≡ Some a → slice_get (course profile slices revisions (beyond k n)).answers r ≡ Some a
 course-answers profile slices revisions n zero r a e = e
 course-answers profile slices revisions n (suc k) r a e =
     let c : Course = course profile slices revisions (beyond k n) in
     let ran : Sliced = replay profile 0 (c.entries ++ next_adds revisions c) in
     concluded-leaves (λ d. slice_get d.answers r ≡ Some a) (λ d b e. get-front d.answers (b ∷ []) r a e) (λ d spent e. e) ran.node.verdict ran.node slices (record c { entries = c.entries ++ next_adds revisions c; log = c.log ++ ran.lines }) (course-answers profile slices revisions n k r a e)
 
-pub course-log : (profile slices : ℕ) (revisions : List Posted) (n k : ℕ) → (lines : List Line) × ((course profile slices revisions (beyond k n)).log ≡ (course profile slices revisions n).log ++ lines)
+pub course-log : (profile : Profile) (slices : ℕ) (revisions : List Posted) (n k : ℕ) → (lines : List Line) × ((course profile slices revisions (beyond k n)).log ≡ (course profile slices revisions n).log ++ lines)
 course-log profile slices revisions n zero = ([], sym (append-nil (course profile slices revisions n).log))
 course-log profile slices revisions n (suc k) = by_rest (course-log profile slices revisions n k)
   where

@@ -3,6 +3,7 @@ use Rattle.std.proofs.Common.{◌≡◌, ℕ, ◌+◌, ◌-◌, ◌<◌, ◌≤�
 use Rattle.std.specs.Prelude.{All, slice_get, slice_set}
 use Rattle.std.proofs.lemmas.List.{take-append-le}
 use Rattle.std.proofs.lemmas.Option.{slice_get_within}
+use Rattle.mal_base.specs.declared.profile.Profile.{Profile}
 use Rattle.mal_base.specs.NumberedClause.{NumberedClause, Line}
 use Rattle.mal_base.specs.declared.answer.Answer.{Answer}
 use Rattle.mal_base.specs.declared.answer.Answer.TheVariants.{Satisfied, Refuted, Spent, OutOfStarts}
@@ -14,7 +15,7 @@ use Rattle.spec_node.specs.State.{Node}
 use Rattle.spec_node.specs.Model.{model_of}
 use Rattle.spec_search.specs.Slice.{slice}
 use Rattle.spec_proof.specs.Log.{IsLog}
-use Rattle.spec_proof.proofs.Among.{Among}
+use Rattle.spec_proof.specs.Among.{Among, IsClosed}
 use Rattle.spec_job.specs.Journal.{JournalEntry, Run, replay, loads_in}
 use Rattle.spec_job.specs.SoloMachine.{Lease, NodeSlot, vacant, SoloMachine, place_at, clauses_in, answered, spend, starve, conclude, first_empty, settled_by}
 use Rattle.spec_job.specs.Models.{clauses_of, variables_of}
@@ -23,7 +24,7 @@ use Rattle.spec_job.proofs.LoadedLemmas.{last_assumed, HasLoaded, clauses_in-pus
 use Rattle.spec_job.proofs.ElementLemmas.{get-push, get-repeated}
 use Rattle.spec_job.proofs.PlacesLemmas.{set-place}
 use Rattle.spec_job.proofs.SolvingLemmas.{IsSolvingSolo}
-use Rattle.spec_job.proofs.ReachedLemmas.{IsClosed, IsEmptyLine, empty-found}
+use Rattle.spec_job.proofs.ReachedLemmas.{IsEmptyLine, empty-found}
 use Rattle.spec_job.proofs.TrackedLemmas.{log-later, log-revised, IsLogged}
 use Rattle.spec_job.proofs.ImportingLemmas.{IsSaid, AreWithin}
 use Rattle.spec_job.proofs.WithinLemmas.{within-later, within-revised}
@@ -41,7 +42,7 @@ pub record IsRefuted (revisions : List Posted) (log : List Line) (goal : ℕ) : 
   pub contradicted : contradicts (last_assumed revisions) (Some line.lits) ≡ true
 
 -- a start that is out runs a slice of a node without a verdict that has loaded its revision
-pub record IsRunning (profile : ℕ) (revisions : List Posted) (log : List Line) (i : ℕ) (entries : List JournalEntry) (l : Lease) : Type 0 where
+pub record IsRunning (profile : Profile) (revisions : List Posted) (log : List Line) (i : ℕ) (entries : List JournalEntry) (l : Lease) : Type 0 where
   pub node : Node
   pub runs : replay profile i (entries ++ l.adds) ≡ slice node
   pub before : List JournalEntry
@@ -52,13 +53,13 @@ pub record IsRunning (profile : ℕ) (revisions : List Posted) (log : List Line)
   pub calm : node.verdict ≡ None
 
 -- a place of a job: the log knows its node, and the node of its start
-pub record IsTracked (profile : ℕ) (revisions : List Posted) (log : List Line) (i : ℕ) (p : NodeSlot) : Type 0 where
+pub record IsTracked (profile : Profile) (revisions : List Posted) (log : List Line) (i : ℕ) (p : NodeSlot) : Type 0 where
   pub logged : IsLogged log i (replay profile i p.entries).node
   pub running : (l : Lease) → p.out ≡ Some l → IsRunning profile revisions log i p.entries l
 
 -- a machine whose log is derived from the revisions up to the current one and of their variables, and whose broadcasts
 -- have clauses of its lines
-pub record IsDeriving (profile : ℕ) (revisions : List Posted) (answers : List Answer) (places : List NodeSlot) (log : List Line) (broadcasts : List (List NumberedClause)) : Type 0 where
+pub record IsDeriving (profile : Profile) (revisions : List Posted) (answers : List Answer) (places : List NodeSlot) (log : List Line) (broadcasts : List (List NumberedClause)) : Type 0 where
   pub derived : IsLog (clauses_of (take (length answers + 1) revisions)) log
   pub closed : IsClosed log
   pub tracked : (i : ℕ) → i ≤ 63 → IsTracked profile revisions log i (get_or places i vacant)
@@ -70,7 +71,7 @@ abbrev pub IsDerivingSolo : SoloMachine → Type 0
 IsDerivingSolo s = IsDeriving s.ask.profile s.revisions s.answers s.places s.log s.broadcasts
 
 -- the nodes that have loaded the current revision have no verdict
-abbrev pub AreCalm : ℕ → ℕ → List NodeSlot → Type 0
+abbrev pub AreCalm : Profile → ℕ → List NodeSlot → Type 0
 AreCalm profile current places = (i : ℕ) → i ≤ 63 → loads_in (get_or places i vacant).entries ≡ current + 1 → (replay profile i (get_or places i vacant).entries).node.verdict ≡ None
 
 -- the nodes have loaded no more than the current revision
@@ -91,12 +92,12 @@ refuted-later revisions log more goal h = record {
 }
 
 -- further answers, where those that refute have lines
-answers-deriving : (profile : ℕ) (revisions : List Posted) (answers more : List Answer) (places : List NodeSlot) (log : List Line) (told : List (List NumberedClause)) → clauses_in revisions < 2 ^ 32 → ((r goal : ℕ) → slice_get (answers ++ more) r ≡ Some (Refuted goal) → IsRefuted (take (r + 1) revisions) log goal) → IsDeriving profile revisions answers places log told → IsDeriving profile revisions (answers ++ more) places log told
+answers-deriving : (profile : Profile) (revisions : List Posted) (answers more : List Answer) (places : List NodeSlot) (log : List Line) (told : List (List NumberedClause)) → clauses_in revisions < 2 ^ 32 → ((r goal : ℕ) → slice_get (answers ++ more) r ≡ Some (Refuted goal) → IsRefuted (take (r + 1) revisions) log goal) → IsDeriving profile revisions answers places log told → IsDeriving profile revisions (answers ++ more) places log told
 answers-deriving profile revisions answers more places log told room good h =
     let long : length (answers ++ more) ≡ length answers + length more = length-append answers more in
     record { derived = log-later revisions (length answers + 1) (length (answers ++ more) + 1) log (omega arith) room h.derived; closed = h.closed; tracked = h.tracked; refuted = good; within = within-later (length answers + 1) (length (answers ++ more) + 1) revisions log (omega arith) h.within; said = h.said }
 
-answered-deriving : (profile : ℕ) (revisions : List Posted) (answers : List Answer) (places : List NodeSlot) (log : List Line) (told : List (List NumberedClause)) (a : Answer) → clauses_in revisions < 2 ^ 32 → ((goal : ℕ) → a ≡ Refuted goal → IsRefuted (take (length answers + 1) revisions) log goal) → IsDeriving profile revisions answers places log told → IsDeriving profile revisions (answers ++ a ∷ []) places log told
+answered-deriving : (profile : Profile) (revisions : List Posted) (answers : List Answer) (places : List NodeSlot) (log : List Line) (told : List (List NumberedClause)) (a : Answer) → clauses_in revisions < 2 ^ 32 → ((goal : ℕ) → a ≡ Refuted goal → IsRefuted (take (length answers + 1) revisions) log goal) → IsDeriving profile revisions answers places log told → IsDeriving profile revisions (answers ++ a ∷ []) places log told
 answered-deriving profile revisions answers places log told a room good h = answers-deriving profile revisions answers (a ∷ []) places log told room (λ r goal e. by_place r goal (get-push answers a (Refuted goal) r e)) h
   where
     by_place : (r goal : ℕ) → ((r ≡ length answers) × (a ≡ Refuted goal)) ⊎ (slice_get answers r ≡ Some (Refuted goal)) → IsRefuted (take (r + 1) revisions) log goal
@@ -148,7 +149,7 @@ conclude-deriving (Some Satisfiable) n s room good h = answered-deriving s.ask.p
 conclude-deriving (Some (Unsatisfiable goal)) n s room good h = answered-deriving s.ask.profile s.revisions s.answers s.places s.log s.broadcasts (Refuted goal) room (λ other e. let same : goal ≡ other = cc in good other (ap (λ (g : ℕ). Some (Unsatisfiable g)) same)) h
 
 -- a place that is tracked is put at its index
-pub placed-deriving : (profile : ℕ) (revisions : List Posted) (answers : List Answer) (places : List NodeSlot) (log : List Line) (told : List (List NumberedClause)) (i : ℕ) (p : NodeSlot) → (i ≤ 63 → IsTracked profile revisions log i p) → IsDeriving profile revisions answers places log told → IsDeriving profile revisions answers (slice_set places i p) log told
+pub placed-deriving : (profile : Profile) (revisions : List Posted) (answers : List Answer) (places : List NodeSlot) (log : List Line) (told : List (List NumberedClause)) (i : ℕ) (p : NodeSlot) → (i ≤ 63 → IsTracked profile revisions log i p) → IsDeriving profile revisions answers places log told → IsDeriving profile revisions answers (slice_set places i p) log told
 placed-deriving profile revisions answers places log told i p k h = record { derived = h.derived; closed = h.closed; tracked = λ j low. by_place j low (set-place places i j p); refuted = h.refuted; within = h.within; said = h.said }
   where
     by_place : (j : ℕ) → j ≤ 63 → ((j ≡ i) × (get_or (slice_set places i p) j vacant ≡ p)) ⊎ (get_or (slice_set places i p) j vacant ≡ get_or places j vacant) → IsTracked profile revisions log j (get_or (slice_set places i p) j vacant)

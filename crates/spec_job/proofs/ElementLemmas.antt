@@ -1,4 +1,4 @@
--- Elements of lists that others stand behind.
+-- Elements of lists that others stand after.
 use Rattle.std.proofs.Common.{◌≡◌, ℕ, zero, suc, ◌≤◌, List, [], ◌∷◌, ◌++◌, length, replicate, Some, inl, inr, ◌⊎◌, refl, ap, arith}
 use Rattle.std.specs.Prelude.{slice_get}
 
@@ -13,7 +13,7 @@ get-push {X} (z ∷ zs) x y (suc r) e = by_place (get-push zs x y r e)
     by_place (inl k) = inl (ap (λ (n : ℕ). suc n) k.0, k.1)
     by_place (inr k) = inr k
 
--- a list behind which one element stands several times: that element, behind the list, or one of those before
+-- a list after which one element stands several times: that element, after the list, or one of those before
 pub get-repeated : {X : Type 0} (xs : List X) (n : ℕ) (x y : X) (r : ℕ) → slice_get (xs ++ replicate n x) r ≡ Some y → ((length xs ≤ r) × (x ≡ y)) ⊎ (slice_get xs r ≡ Some y)
 get-repeated [] zero x y r e = inr e
 get-repeated [] (suc n) x y zero e = inl (omega arith, (cc))

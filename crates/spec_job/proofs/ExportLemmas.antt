@@ -11,9 +11,9 @@ use Rattle.spec_exchange.specs.Order.{IsBefore, IsSorted}
 use Rattle.spec_exchange.proofs.OrderLemmas.{cmp_itself, before-trans}
 use Rattle.spec_exchange.proofs.UnionLemmas.{union-sorted}
 use Rattle.spec_proof.specs.Log.{AreApart}
-use Rattle.spec_proof.proofs.Among.{Among}
+use Rattle.spec_proof.specs.Among.{Among}
 use Rattle.spec_job.specs.SoloMachine.{NodeSlot, is_exported, exports_of, takes_part, exports_from}
-use Rattle.spec_job.proofs.LinesLemmas.{IsOfLine}
+use Rattle.spec_search.specs.Covering.{IsOfLine}
 use Rattle.spec_job.proofs.ImportingLemmas.{IsSaid, told-same, clause_of}
 
 -- what holds of one entry and of others holds of their union

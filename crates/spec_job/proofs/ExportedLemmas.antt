@@ -9,6 +9,7 @@ use Rattle.std.proofs.lemmas.List.Concat.{flat_map-cons}
 use Rattle.std.proofs.lemmas.List.Elements.{filter-append}
 use Rattle.std.proofs.lemmas.List.Sums.{fold_push, fold-append}
 use Rattle.std.proofs.lemmas.Nat.{mod-mul-add}
+use Rattle.mal_base.specs.declared.profile.Profile.{Profile}
 use Rattle.mal_base.specs.Asks.{Terms}
 use Rattle.mal_base.specs.NumberedClause.{NumberedClause, Line}
 use Rattle.mal_base.specs.declared.verdict.Outcome.{Outcome}
@@ -19,9 +20,9 @@ use Rattle.spec_search.specs.Slice.{Sliced, slice}
 use Rattle.spec_search.specs.Laws.{AreNumbered}
 use Rattle.spec_search.proofs.LineLemmas.{lines-counted}
 use Rattle.spec_job.specs.Counts.{runs_in, runs_of, is_opening}
-use Rattle.spec_job.specs.Exported.{derived_from, exchanged_step, exchanged_from, journal_exchanged, is_short, exported_by, IsOpenedFirst, ExportsAreDerived, ExchangesTellDerived}
+use Rattle.spec_job.specs.Exported.{derived_from, exchanged_step, exchanged_from, journal_exchanged, exported_by, IsOpenedFirst, ExportsAreDerived, ExchangesTellDerived}
 use Rattle.spec_job.specs.Journal.{JournalEntry, Load, Import, Run, after_entry, replay}
-use Rattle.spec_job.specs.SoloMachine.{Own, Opened, Revised, Reasked, Closed, Volume, Started, Finished, Exchanged, Lease, NodeSlot, vacant, SoloMachine, unopened, solo, solo_step, place_at, first_empty, settled_by, finished, exports_of, takes_part, exports_from, marked_from, exchanged}
+use Rattle.spec_job.specs.SoloMachine.{Own, Opened, Revised, Reasked, Closed, Volume, Started, Finished, Exchanged, Lease, NodeSlot, vacant, SoloMachine, unopened, solo, solo_step, place_at, first_empty, settled_by, finished, is_short, exports_of, takes_part, exports_from, marked_from, exchanged}
 use Rattle.spec_job.proofs.CountLemmas.{runs_in-cons, replay-index, replay-runs}
 use Rattle.spec_job.proofs.CountingLemmas.{step-low, unopened-low}
 use Rattle.spec_job.proofs.FinishLemmas.{settled-leaves, finished-leaves}
@@ -73,7 +74,7 @@ idle-derives s (Import told ∷ es) none = let cons : runs_in (Import told ∷ e
 idle-derives s (Run ∷ es) none = let cons : runs_in (Run ∷ es) ≡ 1 + runs_in es = runs_in-cons Run es in absurd (omega (arith, cons, none))
 
 -- a start that is out derives the lines of its slice
-module _ (profile all i : ℕ) (entries : List JournalEntry) (l : Lease) (is : IsOutLow all i entries l) where
+module _ (profile : Profile) (all i : ℕ) (entries : List JournalEntry) (l : Lease) (is : IsOutLow all i entries l) where
   abbrev node : Node
   node = (replay profile i (entries ++ is.before)).node
 
@@ -98,8 +99,8 @@ module _ (profile all i : ℕ) (entries : List JournalEntry) (l : Lease) (is : I
   out-numbered = subst (λ (s : Sliced). AreNumbered node.serial i s.lines) (sym runs) (subst (λ (n : ℕ). AreNumbered node.serial n (slice node).lines) (replay-index profile i (entries ++ is.before)) (lines-counted node).numbered)
 
 -- a node's journal has grown from the one with which it last took part in an exchange, and what it derived since then
--- stands in the log behind its mark
-record IsKnown (profile i : ℕ) (last : List JournalEntry) (log : List Line) (p : NodeSlot) : Type 0 where
+-- stands in the log after its mark
+record IsKnown (profile : Profile) (i : ℕ) (last : List JournalEntry) (log : List Line) (p : NodeSlot) : Type 0 where
   pub more : List JournalEntry
   pub grown : p.entries ≡ last ++ more
   pub mark : p.mark ≤ length log
@@ -129,7 +130,7 @@ same-known i j last s q entries mark h = by_place (set-place s.places j i q)
     by_place (inl k) = subst (IsKnown s.ask.profile i last s.log) (sym k.1) (here k.0)
     by_place (inr k) = subst (IsKnown s.ask.profile i last s.log) (sym k) h
 
--- lines behind a log
+-- lines after a log
 behind : (i mark : ℕ) (log lines : List Line) → mark ≤ length log → filter (is_of i) (drop mark (log ++ lines)) ≡ filter (is_of i) (drop mark log) ++ filter (is_of i) lines
 behind i mark log lines low = ap (filter (is_of i)) (drop-append-le mark log lines low) ∙ filter-append (is_of i) (drop mark log) lines
 
@@ -237,7 +238,7 @@ events-known i last s (o ∷ os) none few tidy low h =
     let parts = or_parts (is_opening o) (list_any is_opening os) none in
     events-known i (exchanged_step i s last o) (solo_step s o) os parts.1 few (step-tidy s o tidy) (step-low s o low) (step-known i last s o parts.0 few tidy low h)
 
--- nothing has run before the first event, nor behind an opening
+-- nothing has run before the first event, nor after an opening
 opened-known : (i : ℕ) (ask : Terms) → IsKnownIn i [] (record unopened { ask = ask })
 opened-known i ask = subst (IsKnown ask.profile i [] []) (sym (get-vacant 64 i)) (record { more = []; grown = refl; mark = omega arith; own = refl })
 

@@ -31,7 +31,7 @@ budgets-more n m slices low =
     let next : (n + 1) * slices ≡ n * slices + slices = next-budget n slices in
     omega arith
 
--- no start is out for a revision behind the current one, nor for one that was not posted
+-- no start is out for a revision after the current one, nor for one that was not posted
 none-for : (revision : ℕ) (o : Option Lease) → ((l : Lease) → o ≡ Some l → l.revision ≢ revision) → one_if (is_for revision o) ≡ 0
 none-for revision None h = refl
 none-for revision (Some l) h = ap one_if (ne_eqb l.revision revision (h l refl))

@@ -12,7 +12,8 @@ use Rattle.spec_node.specs.State.{Node}
 use Rattle.spec_search.specs.Slice.{Sliced, slice}
 use Rattle.spec_search.specs.Laws.{IsRefutedBy}
 use Rattle.spec_search.proofs.LineLemmas.{slice-refutes}
-use Rattle.spec_proof.proofs.Among.{Among}
+use Rattle.spec_proof.specs.Among.{Among}
+use Rattle.spec_proof.proofs.Among.{among-right}
 use Rattle.spec_proof.proofs.LogLemmas.{log-empty}
 use Rattle.spec_job.specs.Journal.{replay}
 use Rattle.spec_job.specs.SoloMachine.{Own, Opened, Revised, Reasked, Closed, Volume, Started, Finished, Exchanged, Lease, NodeSlot, SoloMachine, unopened, solo_step, place_at, first_empty, settled, finished_ran, finished_home, finished_lease, finished}
@@ -23,7 +24,6 @@ use Rattle.spec_job.proofs.PlacesLemmas.{get-vacant, out-within}
 use Rattle.spec_job.proofs.SolvingLemmas.{IsSolvingSolo, out-leased}
 use Rattle.spec_job.proofs.PostingLemmas.{posted-solving}
 use Rattle.spec_job.proofs.SolvedLemmas.{in-time, lease-solving}
-use Rattle.spec_job.proofs.ReachedLemmas.{among-right}
 use Rattle.spec_job.proofs.TrackedLemmas.{fresh-logged}
 use Rattle.spec_job.proofs.ImportingLemmas.{IsSaid}
 use Rattle.spec_job.proofs.DerivingLemmas.{IsRefuted, IsRunning, IsTracked, IsDeriving, IsDerivingSolo, AreCalm, starve-deriving, conclude-deriving, posted-deriving, settled-deriving}

@@ -3,6 +3,7 @@ use Rattle.std.proofs.Common.{◌≡◌, ℕ, ◌+◌, ◌-◌, ◌<◌, ◌≤�
 use Rattle.std.specs.Prelude.{All}
 use Rattle.std.proofs.lemmas.List.Elements.{All-head, All-tail, All-take, All-drop}
 use Rattle.std.proofs.lemmas.List.Sums.{sum_by-take-le}
+use Rattle.mal_base.specs.declared.profile.Profile.{Profile}
 use Rattle.mal_base.specs.NumberedClause.{NumberedClause, Line}
 use Rattle.mal_revision.specs.Posted.{Posted}
 use Rattle.spec_node.specs.State.{Node}
@@ -49,7 +50,7 @@ imports-follow (t ∷ ts) revisions log i s may said h =
     (may-import log i t s.node (subst (λ (v : ℕ). IsTellable v log) (sym h.loaded.variables) may) h.logged here, imports-follow ts revisions log i (after_entry s (Import t)) may (All-tail (IsSaid log) t ts said) (import-prepared revisions log i t s.node may here h))
 
 -- the loads that a journal lacks
-missing-follow : (profile : ℕ) (revisions : List Posted) (c i : ℕ) (entries : List JournalEntry) → All IsLoadable revisions → clauses_in revisions < 2 ^ 32 → loads_in entries ≤ c + 1 → HasLoaded (take (loads_in entries) revisions) (replay profile i entries).node → MayAllFollow (replay profile i entries) (loads_of (clauses_in (take (loads_in entries) revisions) + 1) (take (c + 1 - loads_in entries) (drop (loads_in entries) revisions)))
+missing-follow : (profile : Profile) (revisions : List Posted) (c i : ℕ) (entries : List JournalEntry) → All IsLoadable revisions → clauses_in revisions < 2 ^ 32 → loads_in entries ≤ c + 1 → HasLoaded (take (loads_in entries) revisions) (replay profile i entries).node → MayAllFollow (replay profile i entries) (loads_of (clauses_in (take (loads_in entries) revisions) + 1) (take (c + 1 - loads_in entries) (drop (loads_in entries) revisions)))
 missing-follow profile revisions c i entries may room early h =
     let n : ℕ = loads_in entries in
     let m : ℕ = c + 1 - n in

@@ -1,6 +1,7 @@
 -- The journals of a machine that was run on own events that may happen can be replayed.
 use Rattle.std.proofs.Common.{◌≡◌, ℕ, ◌+◌, ◌≤◌, true, List, [], ◌∷◌, ◌++◌, length, get_or, Option, Some, None, inl, inr, ◌⊎◌, refl, sym, ◌∙◌, subst}
 use Rattle.std.specs.Prelude.{slice_set}
+use Rattle.mal_base.specs.declared.profile.Profile.{Profile}
 use Rattle.mal_base.specs.Asks.{Terms}
 use Rattle.mal_base.specs.declared.verdict.Outcome.{Outcome}
 use Rattle.spec_job.specs.Journal.{replay}
@@ -15,14 +16,14 @@ use Rattle.spec_job.proofs.KeptLemmas.{MachineInvariant, step-kept, unopened-kep
 use Rattle.spec_job.proofs.FollowLemmas.{follow-append, start-follows}
 
 -- the journal of a place, and what its start adds
-record IsFollowed (profile : ℕ) (i : ℕ) (p : NodeSlot) : Type 0 where
+record IsFollowed (profile : Profile) (i : ℕ) (p : NodeSlot) : Type 0 where
   pub home : MayAllFollow (replay profile i []) p.entries
   pub out : (l : Lease) → p.out ≡ Some l → MayAllFollow (replay profile i p.entries) l.adds
 
-abbrev AreFollowed : ℕ → List NodeSlot → Type 0
+abbrev AreFollowed : Profile → List NodeSlot → Type 0
 AreFollowed profile places = (i : ℕ) → i ≤ 63 → IsFollowed profile i (get_or places i vacant)
 
-set-followed : (profile : ℕ) (places : List NodeSlot) (i : ℕ) (q : NodeSlot) → (i ≤ 63 → IsFollowed profile i q) → AreFollowed profile places → AreFollowed profile (slice_set places i q)
+set-followed : (profile : Profile) (places : List NodeSlot) (i : ℕ) (q : NodeSlot) → (i ≤ 63 → IsFollowed profile i q) → AreFollowed profile places → AreFollowed profile (slice_set places i q)
 set-followed profile places i q k h j low = by_place (set-place places i j q)
   where
     by_place : ((j ≡ i) × (get_or (slice_set places i q) j vacant ≡ q)) ⊎ (get_or (slice_set places i q) j vacant ≡ get_or places j vacant) → IsFollowed profile j (get_or (slice_set places i q) j vacant)

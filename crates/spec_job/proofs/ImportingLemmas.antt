@@ -15,12 +15,13 @@ use Rattle.spec_node.specs.Laws.{HaveOwnNumbers, MayImport}
 use Rattle.spec_node.proofs.ImportLemmas.{All-with_clauses, All-passed, serial-least, by-taking, import-keeps_sound, import-holds}
 use Rattle.spec_search.specs.Slice.{Sliced}
 use Rattle.spec_proof.specs.Log.{IsAbove, AreApart}
-use Rattle.spec_proof.proofs.Among.{Among, of-all}
+use Rattle.spec_proof.specs.Among.{Among}
+use Rattle.spec_proof.proofs.Among.{of-all}
 use Rattle.spec_job.specs.Journal.{Import, after_entry}
 use Rattle.spec_job.specs.Models.{variables_of}
 use Rattle.spec_job.proofs.LoadedLemmas.{HasLoaded}
 use Rattle.spec_job.proofs.ReachedLemmas.{lits-found}
-use Rattle.spec_job.proofs.LinesLemmas.{IsOfLine}
+use Rattle.spec_search.specs.Covering.{IsOfLine}
 use Rattle.spec_job.proofs.TrackedLemmas.{IsLogged}
 
 -- clauses that are told: each is the clause of a line of the log, and no two have one number

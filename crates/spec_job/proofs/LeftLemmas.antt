@@ -20,7 +20,7 @@ use Rattle.spec_job.proofs.FewLemmas.{next-budget}
 use Rattle.spec_job.proofs.PlacesLemmas.{marked-length, set-here}
 use Rattle.spec_job.proofs.SolvingLemmas.{live-parts, lease_of}
 
--- a machine has its 64 places, and fewer than three starts of the current revision wanted for memory
+-- a machine has its 64 places, and fewer than three starts of the current revision ran out of memory
 pub record HasPlaces (s : SoloMachine) : Type 0 where
   pub count : length s.places ≡ 64
   pub starved : s.starved < 3

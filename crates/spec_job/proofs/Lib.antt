@@ -23,6 +23,7 @@ pub mod LeftLemmas
 pub mod UnknownLemmas
 pub mod UpToLemmas
 pub mod ReplyLemmas
+pub mod OnePassLemmas
 -- what this crate alone cites
 mod ExampleLemmas
 mod ProfileExampleLemmas
@@ -30,7 +31,6 @@ mod ElementLemmas
 mod PostingLemmas
 mod SolvedLemmas
 mod ReachedLemmas
-mod LinesLemmas
 mod TrackedLemmas
 mod ImportingLemmas
 mod ExportLemmas

@@ -6,6 +6,7 @@ use Rattle.std.proofs.lemmas.List.{length-map}
 use Rattle.std.proofs.lemmas.List.Concat.{length-flat_map, flat_map-append}
 use Rattle.std.proofs.lemmas.List.Elements.{All-head, All-tail}
 use Rattle.std.proofs.lemmas.List.Sums.{fold_push, fold-append, sum_by-append, sum_by-cons}
+use Rattle.mal_base.specs.declared.profile.Profile.{Profile}
 use Rattle.mal_base.specs.declared.verdict.Verdict.TheVariants.{Satisfiable}
 use Rattle.mal_revision.specs.Posted.{Posted, is_posted}
 use Rattle.spec_logic.specs.Logic.{satisfies, satisfies_clause, satisfies_with, is_true_in}
@@ -76,7 +77,7 @@ pub clauses_in-push : (ps : List Posted) (r : Posted) → clauses_in (ps ++ r �
 clauses_in-push ps r = fold_push (λ (a : ℕ) (p : Posted). a + length p.clauses) 0 ps r
 
 -- a fresh node has loaded nothing
-pub fresh-loaded : (profile i : ℕ) → i ≤ 63 → HasLoaded [] (fresh_with i profile)
+pub fresh-loaded : (profile : Profile) (i : ℕ) → i ≤ 63 → HasLoaded [] (fresh_with i profile)
 fresh-loaded profile i low = record { sound = fresh-with_sound i profile low; variables = refl; model = λ v. absurd (cc); held = refl; assumed = refl }
 
 -- a load adds its revision

@@ -3,10 +3,11 @@ use Rattle.std.proofs.Common.{◌≡◌, ℕ, ◌+◌, ◌-◌, ◌*◌, ◌/◌
 use Rattle.std.specs.Prelude.{All, slice_set}
 use Rattle.std.proofs.lemmas.List.{length-set}
 use Rattle.std.proofs.lemmas.List.Elements.{All-weaker, All-drop}
+use Rattle.mal_base.specs.declared.profile.Profile.{Profile}
 use Rattle.mal_base.specs.NumberedClause.{NumberedClause, Line}
 use Rattle.mal_revision.specs.Posted.{Posted}
 use Rattle.spec_search.specs.Laws.{AreNumbered}
-use Rattle.spec_proof.proofs.Among.{Among}
+use Rattle.spec_proof.specs.Among.{Among}
 use Rattle.spec_job.specs.Journal.{JournalEntry, Import, Run, replay, loads_in, loads_of, imports_in}
 use Rattle.spec_job.specs.SoloMachine.{Started, Lease, NodeSlot, vacant, SoloMachine, solo_step, place_at, missing_loads, missing_imports, clauses_in, finished_home}
 use Rattle.spec_job.specs.Counts.{runs_in, runs_of, HasCounts}
@@ -20,7 +21,7 @@ pub record IsOutLow (all i : ℕ) (entries : List JournalEntry) (l : Lease) : Ty
   pub before : List JournalEntry
   pub adds : l.adds ≡ before ++ Run ∷ []
   pub none : runs_in before ≡ 0
-  pub counts : (profile : ℕ) → HasCounts all (runs_in entries) (replay profile i (entries ++ before)).node
+  pub counts : (profile : Profile) → HasCounts all (runs_in entries) (replay profile i (entries ++ before)).node
 
 -- its entries run one slice
 pub adds-run : (all i : ℕ) (entries : List JournalEntry) (l : Lease) → IsOutLow all i entries l → runs_in (entries ++ l.adds) ≡ runs_in entries + 1
@@ -33,7 +34,7 @@ adds-run all i entries l is =
 
 -- a place whose node counts low, at home and out
 pub record IsPlaceLow (all i : ℕ) (p : NodeSlot) : Type 0 where
-  pub home : (profile : ℕ) → HasCounts all (runs_in p.entries) (replay profile i p.entries).node
+  pub home : (profile : Profile) → HasCounts all (runs_in p.entries) (replay profile i p.entries).node
   pub out : (l : Lease) → p.out ≡ Some l → IsOutLow all i p.entries l
 
 -- places, a log and broadcasts whose serials are low
@@ -79,7 +80,7 @@ numbered-low serial i all (l ∷ ls) few low h line (inl e) =
 numbered-low serial i all (l ∷ ls) few low h line (inr m) = numbered-low (serial + 1) i all ls few (omega arith) h.1 line m
 
 -- a node as its next start finds it
-pub start-ready : (s : SoloMachine) (i : ℕ) → i ≤ 63 → IsLowSolo s → (profile : ℕ) → HasCounts (runs_of s.places) (runs_in (place_at s i).entries) (replay profile i ((place_at s i).entries ++ (missing_loads s (place_at s i) ++ missing_imports s (place_at s i)))).node
+pub start-ready : (s : SoloMachine) (i : ℕ) → i ≤ 63 → IsLowSolo s → (profile : Profile) → HasCounts (runs_of s.places) (runs_in (place_at s i).entries) (replay profile i ((place_at s i).entries ++ (missing_loads s (place_at s i) ++ missing_imports s (place_at s i)))).node
 start-ready s i few h profile =
     let p : NodeSlot = place_at s i in
     let n : ℕ = loads_in p.entries in

@@ -12,13 +12,14 @@ use Rattle.spec_node.proofs.ImportLemmas.{All-with_clause}
 use Rattle.spec_search.specs.Slice.{Sliced, slice}
 use Rattle.spec_search.specs.Derived.{with_line, with_lines}
 use Rattle.spec_search.proofs.LineLemmas.{held-of_lines}
-use Rattle.spec_proof.proofs.Among.{Among, contains-from_among, all-from_among}
+use Rattle.spec_proof.specs.Among.{Among}
+use Rattle.spec_proof.proofs.Among.{contains-from_among, all-from_among}
 use Rattle.spec_job.specs.Journal.{JournalEntry, replay, loads_in}
 use Rattle.spec_job.specs.SoloMachine.{Lease, SoloMachine, place_at, exports_of}
 use Rattle.spec_job.specs.Models.{clauses_of}
 use Rattle.spec_job.specs.Provenance.{IsLineOf, IsOwn, IsOutOwn, ClausesAreOwn, RunnableClausesOwn}
 use Rattle.spec_job.proofs.LoadedLemmas.{HasLoaded}
-use Rattle.spec_job.proofs.LinesLemmas.{IsOfLine, IsKnown}
+use Rattle.spec_search.specs.Covering.{IsOfLine, IsKnown}
 use Rattle.spec_job.proofs.TrackedLemmas.{IsLogged, node-known}
 use Rattle.spec_job.proofs.ImportingLemmas.{IsSaid, clause_of}
 use Rattle.spec_job.proofs.ExportLemmas.{exports-lines}

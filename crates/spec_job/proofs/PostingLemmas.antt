@@ -4,6 +4,7 @@ use Rattle.std.specs.Prelude.{slice_get}
 use Rattle.std.proofs.lemmas.List.{length-replicate, take-append-le}
 use Rattle.std.proofs.lemmas.List.Elements.{All-nil, All-cons, All-append}
 use Rattle.std.proofs.lemmas.Option.{slice_get_within}
+use Rattle.mal_base.specs.declared.profile.Profile.{Profile}
 use Rattle.mal_base.specs.declared.answer.Answer.{Answer}
 use Rattle.mal_base.specs.declared.answer.Answer.TheVariants.{Satisfied, Refuted}
 use Rattle.mal_revision.specs.Posted.{Posted}
@@ -15,7 +16,7 @@ use Rattle.spec_job.proofs.PlacesLemmas.{marked-length, all-marked}
 use Rattle.spec_job.proofs.SolvingLemmas.{IsLeased, IsReady, IsSolving, IsSolvingSolo, ready-later, ready-revised, placed-solving, lease_of, MayLease}
 
 -- the current revision is answered, where a satisfiable answer carries a model of it
-pub answered-solving : (profile : ℕ) (revisions : List Posted) (answers : List Answer) (places : List NodeSlot) (a : Answer) → length answers < length revisions → ((model : List Bool) → a ≡ Satisfied model → Solves (take (length answers + 1) revisions) model) → IsSolving profile revisions answers places → IsSolving profile revisions (answers ++ a ∷ []) places
+pub answered-solving : (profile : Profile) (revisions : List Posted) (answers : List Answer) (places : List NodeSlot) (a : Answer) → length answers < length revisions → ((model : List Bool) → a ≡ Satisfied model → Solves (take (length answers + 1) revisions) model) → IsSolving profile revisions answers places → IsSolving profile revisions (answers ++ a ∷ []) places
 answered-solving profile revisions answers places a live good h =
     let more : length (answers ++ a ∷ []) ≡ length answers + 1 = length-append answers (a ∷ []) in
     record {
@@ -87,7 +88,7 @@ started-solving s i may leases h =
     }) h
 
 -- an exchange moves marks alone
-ready-marked : (profile : ℕ) (revisions : List Posted) (c i m : ℕ) (p : NodeSlot) → IsReady profile revisions c i p → IsReady profile revisions c i (record p { mark = m })
+ready-marked : (profile : Profile) (revisions : List Posted) (c i m : ℕ) (p : NodeSlot) → IsReady profile revisions c i p → IsReady profile revisions c i (record p { mark = m })
 ready-marked profile revisions c i m p h = record { early = h.early; posted = h.posted; node = h.node; leased = h.leased }
 
 pub exchanged-solving : (s : SoloMachine) → IsSolvingSolo s → IsSolvingSolo (exchanged s)

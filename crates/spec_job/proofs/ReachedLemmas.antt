@@ -1,39 +1,20 @@
--- What a goal needs of a log stays where lines come behind.
-use Rattle.std.proofs.Common.{◌≡◌, ◌≢◌, ℕ, ◌<◌, ◌≤◌, ◌^◌, Bool, true, false, cond, List, [], ◌∷◌, ◌++◌, ◌==◌, Contains, length, map, Option, Some, None, refl, sym, ◌∙◌, subst, ap, inl, inr, ◌⊎◌, arith}
+-- What a goal needs of a log stays where lines come after.
+use Rattle.std.proofs.Common.{◌≡◌, ◌≢◌, ℕ, ◌<◌, ◌≤◌, ◌^◌, Bool, true, false, cond, List, [], ◌∷◌, ◌++◌, ◌==◌, Contains, length, Option, Some, None, refl, sym, ◌∙◌, subst, ap, inl, inr, ◌⊎◌, arith}
 use Rattle.std.specs.Prelude.{All, find, nat_lt}
-use Rattle.std.specs.List.{list_any, list_all}
+use Rattle.std.specs.List.{list_any}
 use Rattle.std.specs.Option.{option_map, option_map_or}
-use Rattle.std.proofs.lemmas.Bool.{eqb-true, eq-eqb, ne_eqb, and_parts, and_from, or_cases, or_left, or_right}
-use Rattle.std.proofs.lemmas.List.Elements.{All-nil, All-cons}
+use Rattle.std.proofs.lemmas.Bool.{eqb-true, eq-eqb, ne_eqb}
 use Rattle.std.proofs.lemmas.List.Sorted.{IsPermutation-append_comm}
 use Rattle.mal_base.specs.NumberedClause.{Line}
-use Rattle.mal_base.specs.Literals.{negated}
-use Rattle.mal_base.proofs.Sorting.{Contains-head, Contains-later, Contains-cases}
-use Rattle.spec_logic.specs.Refutation.{contradicts}
+use Rattle.mal_base.proofs.Sorting.{Contains-head, Contains-later}
 use Rattle.spec_proof.specs.Log.{IsAbove, AreApart}
 use Rattle.spec_proof.specs.Trimmed.{put, by_id, with_needed, reached_in, reached}
-use Rattle.spec_proof.proofs.Among.{Among, among-append, of-all}
+use Rattle.spec_proof.specs.Among.{Among, HasNumber, IsClosed}
+use Rattle.spec_proof.proofs.Among.{among-append, among-left, among-right, of-all}
 use Rattle.spec_proof.proofs.Reaching.{sorted-among, among-sorted, sorted-rising, with-later, reached-among}
 use Rattle.spec_proof.proofs.OrderLemmas.{apart-permuted, rising-same}
 use Rattle.spec_job.specs.Proofs.{lits_at}
 use Rattle.spec_job.specs.SoloMachine.{first_empty}
-
--- one of the lines has this number
-abbrev pub HasNumber : List Line → ℕ → Type 0
-HasNumber lines id = (line : Line) × Among line lines × (line.id ≡ id)
-
--- each hint of a line is the number of an original clause or of one of the lines
-abbrev pub IsClosed : List Line → Type 0
-IsClosed lines = (line : Line) (hint : ℕ) → Among line lines → Contains line.hints hint → (hint < 2 ^ 32) ⊎ HasNumber lines hint
-
-pub among-left : (xs ys : List Line) (x : Line) → Among x xs → Among x (xs ++ ys)
-among-left [] ys x h = absurd h
-among-left (y ∷ xs) ys x (inl e) = inl e
-among-left (y ∷ xs) ys x (inr h) = inr (among-left xs ys x h)
-
-pub among-right : (xs ys : List Line) (x : Line) → Among x ys → Among x (xs ++ ys)
-among-right [] ys x h = h
-among-right (y ∷ xs) ys x h = inr (among-right xs ys x h)
 
 among-swapped : (xs ys : List Line) (x : Line) → Among x (xs ++ ys) → Among x (ys ++ xs)
 among-swapped xs ys x h = by_side (among-append xs ys x h)
@@ -42,7 +23,7 @@ among-swapped xs ys x h = by_side (among-append xs ys x h)
     by_side (inl k) = among-right ys xs x k
     by_side (inr k) = among-left ys xs x k
 
--- lines behind others have other numbers
+-- lines after others have other numbers
 apart-across : (xs ys : List Line) → AreApart (xs ++ ys) → (x y : Line) → Among x xs → Among y ys → y.id ≢ x.id
 apart-across [] ys apart x y h k = absurd h
 apart-across (z ∷ xs) ys apart x y (inl e) k = subst (λ (l : Line). y.id ≢ l.id) e (of-all (λ other. other.id ≢ z.id) (xs ++ ys) y apart.0 (among-right xs ys y k))
@@ -144,41 +125,3 @@ empty-found log goal e = by_find (find (λ (l : Line). length l.lits == 0) log) 
         let found = find-among (λ (x : Line). length x.lits == 0) log l q in
         let same : l.id ≡ goal = cc in
         (l, (found.0, same, none-left l.lits found.1))
-
--- literals contradict their negations, and no others than negations of assumptions contradict those
-member-there : (xs : List ℕ) (x : ℕ) → Contains xs x → list_any (λ a. a == x) xs ≡ true
-member-there [] x (k, h, e) = absurd (omega arith)
-member-there (y ∷ ys) x k = by_first (Contains-cases y ys x k) (λ m. member-there ys x m)
-  where
-    by_first : (y ≡ x) ⊎ Contains ys x → (Contains ys x → list_any (λ a. a == x) ys ≡ true) → list_any (λ a. a == x) (y ∷ ys) ≡ true
-    by_first (inl e) rest = or_left (y == x) _ (eq-eqb y x e)
-    by_first (inr m) rest = or_right (y == x) _ (rest m)
-
-member-found : (xs : List ℕ) (x : ℕ) → list_any (λ a. a == x) xs ≡ true → Contains xs x
-member-found [] x e = absurd (cc)
-member-found (y ∷ ys) x e = by_first (or_cases (y == x) (list_any (λ a. a == x) ys) e) (λ m. member-found ys x m)
-  where
-    by_first : ((y == x) ≡ true) ⊎ (list_any (λ a. a == x) ys ≡ true) → (list_any (λ a. a == x) ys ≡ true → Contains ys x) → Contains (y ∷ ys) x
-    by_first (inl q) rest = subst (λ (n : ℕ). Contains (y ∷ ys) n) (eqb-true y x q) (Contains-head y ys)
-    by_first (inr m) rest = Contains-later y ys x (rest m)
-
-contradicts-all : (given lits : List ℕ) → ((l : ℕ) → Contains lits l → Contains given (negated l)) → list_all (λ l. list_any (λ a. a == negated l) given) lits ≡ true
-contradicts-all given [] h = refl
-contradicts-all given (x ∷ xs) h = and_from _ _ (member-there given (negated x) (h x (Contains-head x xs))) (contradicts-all given xs (λ l k. h l (Contains-later x xs l k)))
-
-negated-there : (lits : List ℕ) (l : ℕ) → Contains lits l → Contains (map negated lits) (negated l)
-negated-there [] l (k, h, e) = absurd (omega arith)
-negated-there (x ∷ xs) l k = by_first (Contains-cases x xs l k) (λ m. negated-there xs l m)
-  where
-    by_first : (x ≡ l) ⊎ Contains xs l → (Contains xs l → Contains (map negated xs) (negated l)) → Contains (negated x ∷ map negated xs) (negated l)
-    by_first (inl e) rest = subst (λ (n : ℕ). Contains (negated x ∷ map negated xs) (negated n)) e (Contains-head (negated x) (map negated xs))
-    by_first (inr m) rest = Contains-later (negated x) (map negated xs) (negated l) (rest m)
-
-pub contradicts-own : (lits : List ℕ) → contradicts (map negated lits) (Some lits) ≡ true
-contradicts-own lits = contradicts-all (map negated lits) lits (negated-there lits)
-
-pub contradicts-members : (given lits : List ℕ) → contradicts given (Some lits) ≡ true → All (Contains given) (map negated lits)
-contradicts-members given [] e = All-nil (Contains given)
-contradicts-members given (x ∷ xs) e =
-    let parts = and_parts (list_any (λ a. a == negated x) given) (list_all (λ l. list_any (λ a. a == negated l) given) xs) e in
-    All-cons (Contains given) (negated x) (map negated xs) (member-found given (negated x) parts.0) (contradicts-members given xs parts.1)

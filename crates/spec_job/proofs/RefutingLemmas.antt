@@ -10,10 +10,12 @@ use Rattle.mal_revision.specs.Posted.{Posted}
 use Rattle.spec_logic.specs.Refutation.{contradicts, IsRefutation}
 use Rattle.spec_proof.specs.Log.{proof_of, AreApart}
 use Rattle.spec_proof.specs.Trimmed.{reached, renamed, renumbered, new_id, ids_of}
-use Rattle.spec_proof.proofs.Among.{Among, contains-from_among, of-all, all-from_among}
+use Rattle.spec_proof.specs.Among.{Among}
+use Rattle.spec_proof.proofs.Among.{among-left, among-right, contains-from_among, of-all, all-from_among}
 use Rattle.spec_proof.proofs.LogLemmas.{log-orderly}
 use Rattle.spec_proof.proofs.Reaching.{goal-is-last}
 use Rattle.spec_proof.proofs.Refuting.{trimmed-refutes}
+use Rattle.spec_proof.proofs.Contradicting.{contradicts-own, contradicts-members}
 use Rattle.spec_proof.specs.Log.{IsAbove}
 use Rattle.spec_job.specs.SoloMachine.{SoloMachine, solo}
 use Rattle.spec_job.specs.Models.{clauses_of, clauses_through}
@@ -21,7 +23,7 @@ use Rattle.spec_job.specs.Proofs.{lits_at, failed, proof_lines, RefutesRevision}
 use Rattle.spec_job.specs.Runnable.{RunnableAnswersFollow, RunnableAnswersRefute, RunnableAnswersSolve, RunnableLogsDerived}
 use Rattle.spec_job.proofs.LoadedLemmas.{last_assumed, last-at}
 use Rattle.spec_job.proofs.SolvedLemmas.{solving-answers}
-use Rattle.spec_job.proofs.ReachedLemmas.{among-left, among-right, reached-stays, lits-found, contradicts-own, contradicts-members}
+use Rattle.spec_job.proofs.ReachedLemmas.{reached-stays, lits-found}
 use Rattle.spec_job.proofs.DerivingLemmas.{IsRefuted}
 use Rattle.spec_job.proofs.KeptLemmas.{MachineInvariant, runnable-kept, kept-log, runnable-solving}
 

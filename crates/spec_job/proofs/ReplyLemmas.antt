@@ -4,6 +4,7 @@ use Rattle.std.specs.Prelude.{All, slice_get}
 use Rattle.std.specs.Option.{option_map}
 use Rattle.std.proofs.lemmas.List.{take-append-le}
 use Rattle.std.proofs.lemmas.Option.{slice_get_within}
+use Rattle.mal_base.specs.declared.profile.Profile.{Profile}
 use Rattle.mal_base.specs.NumberedClause.{Line}
 use Rattle.mal_base.specs.Literals.{negated}
 use Rattle.mal_base.specs.declared.answer.Answer.{Answer}
@@ -11,7 +12,8 @@ use Rattle.mal_base.specs.declared.answer.Answer.TheVariants.{Satisfied, Refuted
 use Rattle.mal_revision.specs.Posted.{Posted}
 use Rattle.spec_proof.specs.Log.{IsAbove, IsOrderly}
 use Rattle.spec_proof.specs.Trimmed.{reached, renumbered}
-use Rattle.spec_proof.proofs.Among.{Among, of-all, all-from_among}
+use Rattle.spec_proof.specs.Among.{Among}
+use Rattle.spec_proof.proofs.Among.{among-left, among-right, of-all, all-from_among}
 use Rattle.spec_proof.proofs.LogLemmas.{log-orderly}
 use Rattle.spec_report.specs.Replies.{Proof, reply_text}
 use Rattle.spec_job.specs.SoloMachine.{SoloMachine}
@@ -20,7 +22,7 @@ use Rattle.spec_job.specs.Proofs.{lits_at}
 use Rattle.spec_job.specs.KeyedJob.{Key}
 use Rattle.spec_job.specs.Replies.{body_by, reply}
 use Rattle.spec_job.specs.DemandOne.{Agree}
-use Rattle.spec_job.proofs.ReachedLemmas.{among-left, among-right, reached-stays, lits-found}
+use Rattle.spec_job.proofs.ReachedLemmas.{reached-stays, lits-found}
 use Rattle.spec_job.proofs.DerivingLemmas.{IsRefuted}
 use Rattle.spec_job.proofs.KeptLemmas.{MachineInvariant, kept-log}
 use Rattle.spec_job.proofs.AgreeLemmas.{IsFront}
@@ -95,4 +97,4 @@ replies-agree s t more front solvers h k logs agree key (suc r) a b e f = by_ans
         let within : r < length s.answers = slice_get_within s.answers r x p in
         let order : length s.answers ≤ length s.revisions = h.solving.order in
         let told : body_by s r x ≡ body_by t r x = told-same s t r x h k logs (front-same s t r more front (omega arith)) p (subst (λ (z : Answer). slice_get t.answers r ≡ Some z) (sym same) q) in
-        sym i ∙ (ap (reply_text key.tenant key.job (suc r) s.ask.profile) told ∙ (ap (λ (p : ℕ). reply_text key.tenant key.job (suc r) p (body_by t r x)) solvers ∙ (ap (λ (z : Answer). reply_text key.tenant key.job (suc r) t.ask.profile (body_by t r z)) same ∙ j)))
+        sym i ∙ (ap (reply_text key.tenant key.job (suc r) s.ask.profile) told ∙ (ap (λ (p : Profile). reply_text key.tenant key.job (suc r) p (body_by t r x)) solvers ∙ (ap (λ (z : Answer). reply_text key.tenant key.job (suc r) t.ask.profile (body_by t r z)) same ∙ j)))

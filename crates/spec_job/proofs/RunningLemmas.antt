@@ -5,6 +5,7 @@ use Rattle.std.proofs.lemmas.Bool.{cases_Bool, eqb-true, eqb-false}
 use Rattle.std.proofs.lemmas.List.{length-take, length-drop}
 use Rattle.std.proofs.lemmas.List.Elements.{All-nil, All-cons, All-append, All-weaker, All-take, All-drop}
 use Rattle.std.proofs.lemmas.List.Sums.{fold_push, fold-append, sum_by-take-le}
+use Rattle.mal_base.specs.declared.profile.Profile.{Profile}
 use Rattle.mal_base.specs.NumberedClause.{NumberedClause, Line}
 use Rattle.mal_revision.specs.Posted.{Posted}
 use Rattle.spec_node.specs.State.{Node, fresh_with}
@@ -14,7 +15,7 @@ use Rattle.spec_search.proofs.LineLemmas.{lines-counted}
 use Rattle.spec_search.proofs.ModelLemmas.{slice-leaves}
 use Rattle.spec_exchange.specs.Exchange.{broadcast}
 use Rattle.spec_proof.specs.Log.{IsOrderly}
-use Rattle.spec_proof.proofs.Among.{Among}
+use Rattle.spec_proof.specs.Among.{Among}
 use Rattle.spec_proof.proofs.LogLemmas.{log-orderly}
 use Rattle.spec_job.specs.Journal.{JournalEntry, Import, Run, after_entry, replay, loads_in, loads_of, imports_in}
 use Rattle.spec_job.specs.SoloMachine.{Started, Lease, NodeSlot, vacant, SoloMachine, solo_step, place_at, clauses_in, startable, finished_home, missing_loads, exports_from, exchanged}
@@ -22,7 +23,8 @@ use Rattle.spec_job.specs.Models.{clauses_of, variables_of}
 use Rattle.spec_job.proofs.LoadedLemmas.{IsLoadable, HasLoaded, clauses_in-append, slice-loaded, loads-loaded}
 use Rattle.spec_job.proofs.PlacesLemmas.{all-marked, set-place, out-within, set-here}
 use Rattle.spec_job.proofs.SolvingLemmas.{IsReady, IsSolvingSolo, start-loads, live-parts, lease_of, MayLease, out-leased}
-use Rattle.spec_job.proofs.LinesLemmas.{Covers, numbers-apart}
+use Rattle.spec_search.specs.Covering.{Covers}
+use Rattle.spec_search.proofs.LinesLemmas.{numbers-apart}
 use Rattle.spec_job.proofs.TrackedLemmas.{IsLogged, logged-later, loads-logged, loads-calm, slice-covers, covers-logged}
 use Rattle.spec_job.proofs.ImportingLemmas.{IsSaid, IsTellable, IsPrepared, imports-prepared}
 use Rattle.spec_job.proofs.ExportLemmas.{broadcast-said, all-exports}
@@ -36,7 +38,7 @@ tellable s h =
     record { apart = orderly.apart; above = orderly.above; within = h.within }
 
 -- the missing loads prepare a node for the current revision
-pub loads-prepared : (profile : ℕ) (revisions : List Posted) (log : List Line) (c i : ℕ) (p : NodeSlot) → All IsLoadable revisions → clauses_in revisions < 2 ^ 32 → IsReady profile revisions c i p → IsLogged log i (replay profile i p.entries).node → (loads_in p.entries ≡ c + 1 → (replay profile i p.entries).node.verdict ≡ None) → c < length revisions → IsPrepared (take (c + 1) revisions) log i (fold after_entry (replay profile i p.entries) (loads_of (clauses_in (take (loads_in p.entries) revisions) + 1) (take (c + 1 - loads_in p.entries) (drop (loads_in p.entries) revisions)))).node
+pub loads-prepared : (profile : Profile) (revisions : List Posted) (log : List Line) (c i : ℕ) (p : NodeSlot) → All IsLoadable revisions → clauses_in revisions < 2 ^ 32 → IsReady profile revisions c i p → IsLogged log i (replay profile i p.entries).node → (loads_in p.entries ≡ c + 1 → (replay profile i p.entries).node.verdict ≡ None) → c < length revisions → IsPrepared (take (c + 1) revisions) log i (fold after_entry (replay profile i p.entries) (loads_of (clauses_in (take (loads_in p.entries) revisions) + 1) (take (c + 1 - loads_in p.entries) (drop (loads_in p.entries) revisions)))).node
 loads-prepared profile revisions log c i p may room h logged calm live =
     let n : ℕ = loads_in p.entries in
     let m : ℕ = c + 1 - n in
@@ -108,7 +110,7 @@ started-deriving s i may k calm h =
     }) h
 
 -- an exchange tells clauses of lines
-tracked-marked : (profile : ℕ) (revisions : List Posted) (log : List Line) (i m : ℕ) (p : NodeSlot) → IsTracked profile revisions log i p → IsTracked profile revisions log i (record p { mark = m })
+tracked-marked : (profile : Profile) (revisions : List Posted) (log : List Line) (i m : ℕ) (p : NodeSlot) → IsTracked profile revisions log i p → IsTracked profile revisions log i (record p { mark = m })
 tracked-marked profile revisions log i m p h = record { logged = h.logged; running = h.running }
 
 pub exchanged-deriving : (s : SoloMachine) → IsDerivingSolo s → IsDerivingSolo (exchanged s)

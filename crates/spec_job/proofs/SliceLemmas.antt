@@ -2,6 +2,7 @@
 use Rattle.std.proofs.Common.{◌≡◌, ℕ, suc, ◌+◌, ◌<◌, ◌≤◌, Bool, true, false, cond, ◌==◌, List, [], ◌∷◌, ◌++◌, length, get_or, Option, Some, None, refl, sym, ◌∙◌, ap, subst, arith}
 use Rattle.std.specs.Prelude.{slice_set}
 use Rattle.std.proofs.lemmas.Bool.{le-ltb}
+use Rattle.mal_base.specs.declared.profile.Profile.{Profile}
 use Rattle.mal_base.specs.declared.answer.Answer.TheVariants.{Spent}
 use Rattle.mal_base.specs.declared.answer.Answer.{Answer}
 use Rattle.mal_base.specs.declared.verdict.Verdict.{Verdict}
@@ -30,7 +31,7 @@ conclude-course (Some Satisfiable) n s = refl
 conclude-course (Some (Unsatisfiable goal)) n s = refl
 
 -- a slice of the one node that goes on with its course
-module _ (profile slices n : ℕ) (s : SoloMachine) (k : IsSolvingSolo s) (h : IsAlong profile slices s n) (stand : IsOpen s (course profile slices s.revisions n)) (live : length (course profile slices s.revisions n).answers < length s.revisions) where
+module _ (profile : Profile) (slices n : ℕ) (s : SoloMachine) (k : IsSolvingSolo s) (h : IsAlong profile slices s n) (stand : IsOpen s (course profile slices s.revisions n)) (live : length (course profile slices s.revisions n).answers < length s.revisions) where
   abbrev c : Course
   c = course profile slices s.revisions n
 
@@ -76,7 +77,7 @@ module _ (profile slices n : ℕ) (s : SoloMachine) (k : IsSolvingSolo s) (h : I
   at-home = ap (λ (x : NodeSlot). record { entries = x.entries; log = s.log ++ ran.lines; answers = s.answers; spent = s.spent }) here
 
   same : course_of t ≡ course profile slices s.revisions (suc n)
-  same = conclude-course ran.node.verdict ran.node home ∙ (ap (λ (x : ℕ). concluded ran.node.verdict ran.node x (course_of home)) h.alone.budget ∙ (ap (concluded ran.node.verdict ran.node slices) at-home ∙ (ap (λ (x : ℕ). ran_on x slices adds (course_of s)) h.alone.solvers ∙ ap (ran_on profile slices adds) stand.same)))
+  same = conclude-course ran.node.verdict ran.node home ∙ (ap (λ (x : ℕ). concluded ran.node.verdict ran.node x (course_of home)) h.alone.budget ∙ (ap (concluded ran.node.verdict ran.node slices) at-home ∙ (ap (λ (x : Profile). ran_on x slices adds (course_of s)) h.alone.solvers ∙ ap (ran_on profile slices adds) stand.same)))
 
   there : IsThere profile slices t (suc n)
   there = record {
@@ -95,13 +96,13 @@ module _ (profile slices n : ℕ) (s : SoloMachine) (k : IsSolvingSolo s) (h : I
   ran-there = subst (λ (b : Bool). IsThere profile slices (cond b home t) (suc n)) (sym in-time) there
 
 -- so does a slice of its start that is out
-pub lease-there : (profile slices n : ℕ) (s : SoloMachine) (l : Lease) → (place_at s 0).out ≡ Some l → IsSolvingSolo s → IsAlong profile slices s n → IsOpen s (course profile slices s.revisions n) → IsThere profile slices (finished_ran s 0 (place_at s 0) l) (suc n)
+pub lease-there : (profile : Profile) (slices n : ℕ) (s : SoloMachine) (l : Lease) → (place_at s 0).out ≡ Some l → IsSolvingSolo s → IsAlong profile slices s n → IsOpen s (course profile slices s.revisions n) → IsThere profile slices (finished_ran s 0 (place_at s 0) l) (suc n)
 lease-there profile slices n s l out k h stand =
     let goes = stand.leased l out in
     subst (λ (x : Lease). IsThere profile slices (finished_ran s 0 (place_at s 0) x) (suc n)) (sym goes.1) (ran-there profile slices n s k h stand goes.0)
 
 -- a start that comes to nothing leaves the course
-pub home-there : (profile slices n : ℕ) (s : SoloMachine) → IsAlong profile slices s n → IsOpen s (course profile slices s.revisions n) → IsThere profile slices (finished_home s 0 (place_at s 0)) n
+pub home-there : (profile : Profile) (slices n : ℕ) (s : SoloMachine) → IsAlong profile slices s n → IsOpen s (course profile slices s.revisions n) → IsThere profile slices (finished_home s 0 (place_at s 0)) n
 home-there profile slices n s h stand =
     let q : NodeSlot = record (place_at s 0) { out = None } in
     let here : get_or (slice_set s.places 0 q) 0 vacant ≡ q = set-first s.places q h.alone.some in

@@ -4,6 +4,7 @@ use Rattle.std.specs.List.{list_all}
 use Rattle.std.proofs.lemmas.Bool.{and_parts, ltb-false}
 use Rattle.std.proofs.lemmas.List.Elements.{All-nil}
 use Rattle.std.proofs.lemmas.Option.{slice_get_within}
+use Rattle.mal_base.specs.declared.profile.Profile.{Profile}
 use Rattle.mal_base.specs.Asks.{Terms}
 use Rattle.mal_base.specs.declared.answer.Answer.TheVariants.{Satisfied, Refuted, Spent, OutOfStarts}
 use Rattle.mal_base.specs.declared.verdict.Verdict.{Verdict}
@@ -32,7 +33,7 @@ spend-solving s live h = by_test (s.spent + 1 == s.ask.slices)
     by_test true = answered-solving s.ask.profile s.revisions s.answers s.places (Spent s.ask.slices) live (λ model e. absurd (cc)) h
     by_test false = h
 
--- so does the third start that reported want of memory
+-- so does the third start that reported out of memory
 starve-solving : (s : SoloMachine) → length s.answers < length s.revisions → IsSolvingSolo s → IsSolvingSolo (starve s)
 starve-solving s live h = by_test (s.starved + 1 == 3)
   where
@@ -47,7 +48,7 @@ conclude-solving (Some Satisfiable) n s live good h = answered-solving s.ask.pro
 conclude-solving (Some (Unsatisfiable goal)) n s live good h = answered-solving s.ask.profile s.revisions s.answers s.places (Refuted goal) live (λ model e. absurd (cc)) h
 
 -- a place at home with the entries that its start added
-pub home-ready : (profile : ℕ) (revisions : List Posted) (c i : ℕ) (p : NodeSlot) (l : Lease) → IsLeased profile revisions c i p.entries l → IsReady profile revisions c i (record p { entries = p.entries ++ l.adds; out = None })
+pub home-ready : (profile : Profile) (revisions : List Posted) (c i : ℕ) (p : NodeSlot) (l : Lease) → IsLeased profile revisions c i p.entries l → IsReady profile revisions c i (record p { entries = p.entries ++ l.adds; out = None })
 home-ready profile revisions c i p l k =
     let reached : l.revision ≤ c = k.reached in
     let posted : l.revision < length revisions = k.posted in

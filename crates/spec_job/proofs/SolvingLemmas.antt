@@ -3,6 +3,7 @@ use Rattle.std.proofs.Common.{◌≡◌, ℕ, ◌+◌, ◌-◌, ◌<◌, ◌≤�
 use Rattle.std.specs.Prelude.{All, slice_get, slice_set}
 use Rattle.std.proofs.lemmas.Bool.{and_parts, ltb-true}
 use Rattle.std.proofs.lemmas.List.{length-set, length-take, length-drop, take-append-le}
+use Rattle.mal_base.specs.declared.profile.Profile.{Profile}
 use Rattle.mal_base.specs.NumberedClause.{NumberedClause}
 use Rattle.mal_base.specs.declared.answer.Answer.{Answer}
 use Rattle.mal_base.specs.declared.answer.Answer.TheVariants.{Satisfied}
@@ -13,21 +14,21 @@ use Rattle.spec_job.proofs.LoadedLemmas.{IsLoadable, Solves, HasLoaded, loads_in
 use Rattle.spec_job.proofs.PlacesLemmas.{set-place, out-within}
 
 -- a start that is out: its entries bring the node to its revision
-pub record IsLeased (profile : ℕ) (revisions : List Posted) (current index : ℕ) (entries : List JournalEntry) (l : Lease) : Type 0 where
+pub record IsLeased (profile : Profile) (revisions : List Posted) (current index : ℕ) (entries : List JournalEntry) (l : Lease) : Type 0 where
   pub reached : l.revision ≤ current
   pub posted : l.revision < length revisions
   pub loads : loads_in (entries ++ l.adds) ≡ l.revision + 1
   pub node : HasLoaded (take (l.revision + 1) revisions) (replay profile index (entries ++ l.adds)).node
 
 -- a place of a job: its node has loaded the first revisions, up to the current one at most
-pub record IsReady (profile : ℕ) (revisions : List Posted) (current index : ℕ) (p : NodeSlot) : Type 0 where
+pub record IsReady (profile : Profile) (revisions : List Posted) (current index : ℕ) (p : NodeSlot) : Type 0 where
   pub early : loads_in p.entries ≤ current + 1
   pub posted : loads_in p.entries ≤ length revisions
   pub node : HasLoaded (take (loads_in p.entries) revisions) (replay profile index p.entries).node
   pub leased : (l : Lease) → p.out ≡ Some l → IsLeased profile revisions current index p.entries l
 
 -- a machine whose revisions can be loaded, with its places, whose satisfiable answers carry models
-pub record IsSolving (profile : ℕ) (revisions : List Posted) (answers : List Answer) (places : List NodeSlot) : Type 0 where
+pub record IsSolving (profile : Profile) (revisions : List Posted) (answers : List Answer) (places : List NodeSlot) : Type 0 where
   pub loadable : All IsLoadable revisions
   pub room : clauses_in revisions < 2 ^ 32
   pub order : length answers ≤ length revisions
@@ -55,7 +56,7 @@ start-loads revisions c entries tolds live early =
     omega arith
 
 -- further answers leave a place ready
-pub ready-later : (profile : ℕ) (revisions : List Posted) (c d i : ℕ) (p : NodeSlot) → c ≤ d → IsReady profile revisions c i p → IsReady profile revisions d i p
+pub ready-later : (profile : Profile) (revisions : List Posted) (c d i : ℕ) (p : NodeSlot) → c ≤ d → IsReady profile revisions c i p → IsReady profile revisions d i p
 ready-later profile revisions c d i p later h = record {
   early = let a : loads_in p.entries ≤ c + 1 = h.early in omega arith;
   posted = h.posted;
@@ -64,7 +65,7 @@ ready-later profile revisions c d i p later h = record {
 }
 
 -- so does a further revision
-pub ready-revised : (profile : ℕ) (revisions : List Posted) (r : Posted) (c i : ℕ) (p : NodeSlot) → IsReady profile revisions c i p → IsReady profile (revisions ++ r ∷ []) c i p
+pub ready-revised : (profile : Profile) (revisions : List Posted) (r : Posted) (c i : ℕ) (p : NodeSlot) → IsReady profile revisions c i p → IsReady profile (revisions ++ r ∷ []) c i p
 ready-revised profile revisions r c i p h =
     let more : length (revisions ++ r ∷ []) ≡ length revisions + 1 = length-append revisions (r ∷ []) in
     record {
@@ -78,7 +79,7 @@ ready-revised profile revisions r c i p h =
     }
 
 -- a place that is ready is put at its index
-pub placed-solving : (profile : ℕ) (revisions : List Posted) (answers : List Answer) (places : List NodeSlot) (i : ℕ) (p : NodeSlot) → (i ≤ 63 → IsReady profile revisions (length answers) i p) → IsSolving profile revisions answers places → IsSolving profile revisions answers (slice_set places i p)
+pub placed-solving : (profile : Profile) (revisions : List Posted) (answers : List Answer) (places : List NodeSlot) (i : ℕ) (p : NodeSlot) → (i ≤ 63 → IsReady profile revisions (length answers) i p) → IsSolving profile revisions answers places → IsSolving profile revisions answers (slice_set places i p)
 placed-solving profile revisions answers places i p k h = record { loadable = h.loadable; room = h.room; order = h.order; count = subst (λ (m : ℕ). m ≤ 64) (sym (length-set places i p)) h.count; ready = λ j low. by_place j low (set-place places i j p); solved = h.solved }
   where
     by_place : (j : ℕ) → j ≤ 63 → ((j ≡ i) × (get_or (slice_set places i p) j vacant ≡ p)) ⊎ (get_or (slice_set places i p) j vacant ≡ get_or places j vacant) → IsReady profile revisions (length answers) j (get_or (slice_set places i p) j vacant)

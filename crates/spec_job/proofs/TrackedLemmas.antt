@@ -6,6 +6,7 @@ use Rattle.std.proofs.lemmas.List.{take-append-drop}
 use Rattle.std.proofs.lemmas.List.Concat.{flat_map-append}
 use Rattle.std.proofs.lemmas.List.Elements.{All-weaker, All-contains}
 use Rattle.std.proofs.lemmas.List.Sums.{sum_by-take-le}
+use Rattle.mal_base.specs.declared.profile.Profile.{Profile}
 use Rattle.mal_base.specs.NumberedClause.{NumberedClause, Line}
 use Rattle.mal_revision.specs.Posted.{Posted}
 use Rattle.spec_logic.specs.Refutation.{numbered}
@@ -19,14 +20,15 @@ use Rattle.spec_search.specs.Derived.{with_lines}
 use Rattle.spec_search.specs.Laws.{IsCounted, AreNumbered}
 use Rattle.spec_search.proofs.LineLemmas.{lines-derived, held-of_lines, lines-counted}
 use Rattle.spec_proof.specs.Log.{IsLog}
-use Rattle.spec_proof.proofs.Among.{Among, among-append}
+use Rattle.spec_proof.specs.Among.{Among, IsClosed}
+use Rattle.spec_proof.proofs.Among.{among-append}
 use Rattle.spec_proof.proofs.Growing.{log-takes-originals, numbered-within}
 use Rattle.spec_job.specs.Journal.{Load, after_entry, loads_of}
 use Rattle.spec_job.specs.SoloMachine.{clauses_in}
 use Rattle.spec_job.specs.Models.{clauses_of}
 use Rattle.spec_job.proofs.LoadedLemmas.{clauses-length, clauses_in-cons}
-use Rattle.spec_job.proofs.ReachedLemmas.{IsClosed}
-use Rattle.spec_job.proofs.LinesLemmas.{IsOfLine, IsKnown, of-line-later, Covers, numbered-known, of-originals, take-lines}
+use Rattle.spec_search.specs.Covering.{IsOfLine, IsKnown, Covers}
+use Rattle.spec_search.proofs.LinesLemmas.{of-line-later, numbered-known, of-originals, take-lines}
 
 -- a log of a job's first revisions stays one for more of them
 log-longer : (xs ys : List Posted) (log : List Line) → IsLog (clauses_of xs) log → clauses_in (xs ++ ys) < 2 ^ 32 → IsLog (clauses_of (xs ++ ys)) log
@@ -85,7 +87,7 @@ logged-later log more i n others h = record {
     by_side line k q (inr m) = absurd (others line k m q)
 
 -- the node at its first start
-pub fresh-logged : (profile i : ℕ) → IsLogged [] i (fresh_with i profile)
+pub fresh-logged : (profile : Profile) (i : ℕ) → IsLogged [] i (fresh_with i profile)
 fresh-logged profile i = record { index = refl; held = λ k d h. absurd (omega arith); before = λ line k m q. absurd m }
 
 -- a load changes nothing

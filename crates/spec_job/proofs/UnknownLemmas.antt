@@ -101,7 +101,7 @@ module _ (slices i : ℕ) (es : List Ending) (s : SoloMachine) (l : Lease) (o : 
   late-flag : (r : ℕ) (late starved : Bool) (x : Bool) → late ≡ true → (x && (not late && starved)) ≡ false
   late-flag r late starved x is = and_right x (not late && starved) (and_left (not late) starved (ap not is))
 
-  -- a late start that wanted for memory is none of a revision's
+  -- a late start that ran out of memory is none of a revision's
   not-starved : (r : ℕ) → r < length s.answers → is_starved_of r e ≡ false
   not-starved r low = by_late (is_late s l) refl
     where
@@ -193,7 +193,7 @@ module _ (slices i : ℕ) (es : List Ending) (s : SoloMachine) (l : Lease) (o : 
     conclude-tally ran (Some Satisfiable) is = answered-tally slices all t (Satisfied (model_of e.node)) tallied tt (λ n bad. absurd (cc))
     conclude-tally ran (Some (Unsatisfiable goal)) is = answered-tally slices all t (Refuted goal) tallied tt (λ n bad. absurd (cc))
 
-    -- a start that wanted for memory
+    -- a start that ran out of memory
     one-starved : o ≡ Starved → length (starved_of (length s.answers) all) ≡ s.starved + 1
     one-starved starved =
         let test : is_starved_of (length s.answers) e ≡ true = ap (λ (b : Bool). b && (not (is_late s l) && not (had_memory o))) (eq-eqb l.revision (length s.answers) (current now)) ∙ (ap (λ (b : Bool). not b && not (had_memory o)) now ∙ ap (λ (x : Outcome). not (had_memory x)) starved) in
@@ -257,7 +257,7 @@ step-tally slices es s (Started i) once may w h = subst (λ (xs : List Ending). 
 step-tally slices es s (Finished i o) once may w h = finished-tally slices i es s (place_at s i).out o refl w.kept.solving w.few h
 step-tally slices es s Exchanged once may w h = subst (λ (xs : List Ending). HasTally slices xs (solo_step s Exchanged)) (sym (append-nil es)) (marked-tally slices es s h)
 
--- what ends behind others
+-- what ends after others
 ending-first : (es : List Ending) (x : Option Ending) (rest : List Ending) → and_ending es x ++ rest ≡ es ++ with_ending x rest
 ending-first es None rest = ap (λ (xs : List Ending). xs ++ rest) (append-nil es)
 ending-first es (Some e) rest = append_assoc es (e ∷ []) rest
@@ -288,7 +288,7 @@ answers-accounted_for ask own h r a e =
     let asked : IsWithin ask.slices (solo (Opened ask ∷ own)) = events-within ask.slices (Opened ask ∷ []) own h.runnable.1 h.once (opened-within ask) in
     subst (λ (n : ℕ). IsAccountedFor n (endings (Opened ask ∷ own)) r a) (sym asked.few.budget) (tally.tallied.accounted r a e)
 
--- where none wanted for memory
+-- where none ran out of memory
 none-starved : (s : SoloMachine) (r : ℕ) (events : List Own) → list_all is_fed events ≡ true → starved_of r (endings_from s events) ≡ []
 none-starved s r [] h = refl
 none-starved s r (o ∷ os) h =
@@ -323,7 +323,7 @@ decides slices events r OutOfStarts fed h =
     let none : length (starved_of r (endings events)) ≡ 0 = ap (λ (xs : List Ending). length xs) (none-starved unopened r events fed) in
     absurd (omega (arith, none, h))
 
--- answers that are accounted for decide where no start wanted for memory
+-- answers that are accounted for decide where no start ran out of memory
 pub accounted-decides : (events : List Own) → AnswersAccountedFor events → FedAnswersDecide events
 accounted-decides events h fed r a e = decides (solo events).ask.slices events r a fed (h r a e)
 

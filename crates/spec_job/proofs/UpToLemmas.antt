@@ -5,6 +5,7 @@ use Rattle.std.specs.List.{list_all}
 use Rattle.std.proofs.lemmas.Bool.{and_parts, cases_lt}
 use Rattle.std.proofs.lemmas.List.{length-take, take-append-drop, take-append-le}
 use Rattle.std.proofs.lemmas.Option.{slice_get_within, slice_get-get_or}
+use Rattle.mal_base.specs.declared.profile.Profile.{Profile}
 use Rattle.mal_base.specs.Asks.{Terms}
 use Rattle.mal_base.specs.NumberedClause.{Line}
 use Rattle.mal_base.specs.declared.answer.Answer.{Answer}
@@ -33,7 +34,7 @@ use Rattle.spec_job.proofs.ReplyLemmas.{told-same, reply-at}
 use Rattle.spec_job.proofs.SingleLemmas.{IsOnCourse, GoesOneOn, IsFollowing, step-on, opened-follows, come-along, log-along}
 use Rattle.spec_job.proofs.StayLemmas.{stays-self, stays-on, step-stays}
 
--- a machine grows: lines and revisions come behind those that there are
+-- a machine grows: lines and revisions come after those that there are
 record HasGrown (s t : SoloMachine) : Type 0 where
   pub lines : List Line
   pub log : t.log ≡ s.log ++ lines
@@ -66,7 +67,7 @@ step-grown s (Finished i o) = finished-grown s i (place_at s i) (place_at s i).o
 step-grown s Exchanged = unchanged s (solo_step s Exchanged) refl refl
 
 -- a course: its answers become more, and the node has loaded one revision more than have answers at the most
-module _ (profile slices : ℕ) (revisions : List Posted) (n : ℕ) where
+module _ (profile : Profile) (slices : ℕ) (revisions : List Posted) (n : ℕ) where
   abbrev c : Course
   c = course profile slices revisions n
 
@@ -92,11 +93,11 @@ module _ (profile slices : ℕ) (revisions : List Posted) (n : ℕ) where
       let same : loads_in (course profile slices revisions (suc n)).entries ≡ loads_in (c.entries ++ next_adds revisions c) = concluded-leaves (λ d. loads_in d.entries ≡ loads_in before.entries) (λ d a same. same) (λ d spent same. same) ran.node.verdict ran.node slices before refl in
       omega (arith, low, all, adds, count, taken, same, more-answers)
 
-course-loads : (profile slices : ℕ) (revisions : List Posted) (n : ℕ) → loads_in (course profile slices revisions n).entries ≤ length (course profile slices revisions n).answers + 1
+course-loads : (profile : Profile) (slices : ℕ) (revisions : List Posted) (n : ℕ) → loads_in (course profile slices revisions n).entries ≤ length (course profile slices revisions n).answers + 1
 course-loads profile slices revisions zero = omega arith
 course-loads profile slices revisions (suc n) = next-loads profile slices revisions n (course-loads profile slices revisions n)
 
-answers-mono : (profile slices : ℕ) (revisions : List Posted) (j n : ℕ) → j ≤ n → length (course profile slices revisions j).answers ≤ length (course profile slices revisions n).answers
+answers-mono : (profile : Profile) (slices : ℕ) (revisions : List Posted) (j n : ℕ) → j ≤ n → length (course profile slices revisions j).answers ≤ length (course profile slices revisions n).answers
 answers-mono profile slices revisions zero zero low = omega arith
 answers-mono profile slices revisions (suc j) zero low = absurd (omega (arith, low))
 answers-mono profile slices revisions j (suc n) low = by_order (cases_lt j (suc n)) (λ less. answers-mono profile slices revisions j n (omega (arith, less)))
@@ -105,7 +106,7 @@ answers-mono profile slices revisions j (suc n) low = by_order (cases_lt j (suc 
     by_order (inl less) rest = let more : length (course profile slices revisions n).answers ≤ length (course profile slices revisions (suc n)).answers = more-answers profile slices revisions n in omega (arith, more, rest less)
     by_order (inr high) rest = let same : j ≡ suc n = omega (arith, high, low) in subst (λ (k : ℕ). length (course profile slices revisions j).answers ≤ length (course profile slices revisions k).answers) same (omega arith)
 
-went-down : (profile slices : ℕ) (revisions : List Posted) (j n : ℕ) → j ≤ n → WentOn profile slices revisions n → WentOn profile slices revisions j
+went-down : (profile : Profile) (slices : ℕ) (revisions : List Posted) (j n : ℕ) → j ≤ n → WentOn profile slices revisions n → WentOn profile slices revisions j
 went-down profile slices revisions zero n low w = tt
 went-down profile slices revisions (suc j) zero low w = absurd (omega (arith, low))
 went-down profile slices revisions (suc j) (suc n) low w = by_order (cases_lt (suc j) (suc n)) (λ less. went-down profile slices revisions (suc j) n (omega (arith, less)) w.0)
@@ -115,28 +116,28 @@ went-down profile slices revisions (suc j) (suc n) low w = by_order (cases_lt (s
     by_order (inr high) rest = let same : n ≡ j = omega (arith, high, low) in subst (λ (k : ℕ). WentOn profile slices revisions (suc k)) same w
 
 -- a course goes on by the revisions up to one that it has not answered before its last slice
-abbrev HasLeft : ℕ → ℕ → List Posted → ℕ → ℕ → Type 0
+abbrev HasLeft : Profile → ℕ → List Posted → ℕ → ℕ → Type 0
 HasLeft profile slices revisions r zero = Unit {0}
 HasLeft profile slices revisions r (suc n) = length (course profile slices revisions n).answers ≤ r
 
-left-before : (profile slices : ℕ) (revisions : List Posted) (r n : ℕ) → length (course profile slices revisions n).answers ≤ r → HasLeft profile slices revisions r n
+left-before : (profile : Profile) (slices : ℕ) (revisions : List Posted) (r n : ℕ) → length (course profile slices revisions n).answers ≤ r → HasLeft profile slices revisions r n
 left-before profile slices revisions r zero low = tt
 left-before profile slices revisions r (suc k) low = let more : length (course profile slices revisions k).answers ≤ length (course profile slices revisions (suc k)).answers = more-answers profile slices revisions k in omega (arith, more, low)
 
-front-on : (profile slices : ℕ) (front rest : List Posted) (r n : ℕ) → length front ≡ r + 1 → length (course profile slices (front ++ rest) n).answers ≤ r → GoesOn (front ++ rest) (course profile slices (front ++ rest) n) → WentOn profile slices front n → GoesOn front (course profile slices front n)
+front-on : (profile : Profile) (slices : ℕ) (front rest : List Posted) (r n : ℕ) → length front ≡ r + 1 → length (course profile slices (front ++ rest) n).answers ≤ r → GoesOn (front ++ rest) (course profile slices (front ++ rest) n) → WentOn profile slices front n → GoesOn front (course profile slices front n)
 front-on profile slices front rest r n size low on went =
     let same : course profile slices (front ++ rest) n ≡ course profile slices front n = course-more profile slices front rest n went in
     let loads : loads_in (course profile slices (front ++ rest) n).entries ≤ length (course profile slices (front ++ rest) n).answers + 1 = course-loads profile slices (front ++ rest) n in
     subst (λ (c : Course). GoesOn front c) same (record { live = omega (arith, size, low); loaded = omega (arith, size, low, loads); open_yet = on.open_yet })
 
-went-front : (profile slices : ℕ) (front rest : List Posted) (r n : ℕ) → length front ≡ r + 1 → WentOn profile slices (front ++ rest) n → HasLeft profile slices (front ++ rest) r n → WentOn profile slices front n
+went-front : (profile : Profile) (slices : ℕ) (front rest : List Posted) (r n : ℕ) → length front ≡ r + 1 → WentOn profile slices (front ++ rest) n → HasLeft profile slices (front ++ rest) r n → WentOn profile slices front n
 went-front profile slices front rest r zero size w left = tt
 went-front profile slices front rest r (suc n) size w left =
     let went : WentOn profile slices front n = went-front profile slices front rest r n size w.0 (left-before profile slices (front ++ rest) r n left) in
     (went, front-on profile slices front rest r n size left w.1 went)
 
 -- a machine as it was just after it answered a revision
-pub record WasAnswered (profile slices r : ℕ) (s : SoloMachine) : Type 0 where
+pub record WasAnswered (profile : Profile) (slices r : ℕ) (s : SoloMachine) : Type 0 where
   pub was : SoloMachine
   pub ran : ℕ
   pub kept : MachineInvariant was
@@ -149,7 +150,7 @@ pub record WasAnswered (profile slices r : ℕ) (s : SoloMachine) : Type 0 where
   pub same : take (r + 1) s.revisions ≡ take (r + 1) was.revisions
 
 -- a revision has no answer yet, or it was answered so
-abbrev Stands : ℕ → ℕ → ℕ → SoloMachine → Type 0
+abbrev Stands : Profile → ℕ → ℕ → SoloMachine → Type 0
 Stands profile slices r s = (length s.answers ≤ r) ⊎ WasAnswered profile slices r s
 
 come-short : (c : Course) (answers : List Answer) → ComeFrom c answers → length c.answers ≤ length answers
@@ -163,7 +164,7 @@ come-short c answers h = by_order (cases_lt (length answers) (length c.answers))
         absurd (omega (arith, there))
 
 -- the course before the last slice has answered no more than the machine before the event
-left-after : (profile slices r n m : ℕ) (s t : SoloMachine) → (more : List Posted) → t.revisions ≡ s.revisions ++ more → m ≤ suc n → IsAlong profile slices s n → length s.answers ≤ r → HasLeft profile slices t.revisions r m
+left-after : (profile : Profile) (slices r n m : ℕ) (s t : SoloMachine) → (more : List Posted) → t.revisions ≡ s.revisions ++ more → m ≤ suc n → IsAlong profile slices s n → length s.answers ≤ r → HasLeft profile slices t.revisions r m
 left-after profile slices r n zero s t more e low along few = tt
 left-after profile slices r n (suc j) s t more e low along few =
     let went : WentOn profile slices s.revisions j = went-down profile slices s.revisions j n (omega (arith, low)) along.went in
@@ -175,7 +176,7 @@ left-after profile slices r n (suc j) s t more e low along few =
 front-size : (r : ℕ) (ps : List Posted) → r < length ps → length (take (r + 1) ps) ≡ r + 1
 front-size r ps low = let taken : length (take (r + 1) ps) ≡ min (r + 1) (length ps) = length-take (r + 1) ps in omega (arith, taken, low)
 
-step-stands : (profile slices r n : ℕ) (s : SoloMachine) (o : Own) → MayHappen s o → is_single o ≡ true → MachineInvariant s → IsAlong profile slices s n → Stands profile slices r s → Stands profile slices r (solo_step s o)
+step-stands : (profile : Profile) (slices r n : ℕ) (s : SoloMachine) (o : Own) → MayHappen s o → is_single o ≡ true → MachineInvariant s → IsAlong profile slices s n → Stands profile slices r s → Stands profile slices r (solo_step s o)
 step-stands profile slices r n s o may single kept along (inr w) =
     let grown : HasGrown s (solo_step s o) = step-grown s o in
     let stayed : length w.was.answers ≤ length s.answers = omega (arith, ap (λ (xs : List Answer). length xs) w.stay.kept, length-append w.was.answers w.stay.more) in
@@ -229,12 +230,12 @@ step-stands profile slices r n s o may single kept along (inl few) = by_order (c
     by_order (inr low) = inl low
 
 -- of a whole run
-record IsTraced (profile slices r : ℕ) (s : SoloMachine) : Type 0 where
+record IsTraced (profile : Profile) (slices r : ℕ) (s : SoloMachine) : Type 0 where
   pub kept : MachineInvariant s
   pub on : IsOnCourse profile slices s
   pub stands : Stands profile slices r s
 
-events-traced : (profile slices r : ℕ) (past events : List Own) → IsRunnable past events → list_all is_single events ≡ true → IsTraced profile slices r (solo past) → IsTraced profile slices r (solo (past ++ events))
+events-traced : (profile : Profile) (slices r : ℕ) (past events : List Own) → IsRunnable past events → list_all is_single events ≡ true → IsTraced profile slices r (solo past) → IsTraced profile slices r (solo (past ++ events))
 events-traced profile slices r past events may single h = events-keep (IsTraced profile slices r) (λ before os. IsRunnable before os × (list_all is_single os ≡ true)) (λ before o os q k.
     let parts = and_parts (is_single o) (list_all is_single os) q.1 in
     let after : MachineInvariant (solo_step (solo before) o) = step-kept (solo before) o q.0.0 k.kept in
@@ -247,7 +248,7 @@ single-traced ask own r h =
     events-traced ask.profile ask.slices r (Opened ask ∷ []) own h.runnable.1 h.single (record { kept = opened.kept; on = opened.on; stands = inl (omega arith) })
 
 -- two machines just after they answered a revision, where the revisions up to it are the same
-module _ (profile slices r : ℕ) (s t : SoloMachine) (v : WasAnswered profile slices r s) (w : WasAnswered profile slices r t) (alike : take (r + 1) s.revisions ≡ take (r + 1) t.revisions) where
+module _ (profile : Profile) (slices r : ℕ) (s t : SoloMachine) (v : WasAnswered profile slices r s) (w : WasAnswered profile slices r t) (alike : take (r + 1) s.revisions ≡ take (r + 1) t.revisions) where
   abbrev front : List Posted
   front = take (r + 1) v.was.revisions
 
@@ -267,7 +268,7 @@ module _ (profile slices r : ℕ) (s t : SoloMachine) (v : WasAnswered profile s
   were-fronts = courses-logs profile slices front v.ran w.ran v.was.log w.was.log (log-along profile slices v.ran v.was v.along ∙ ap (λ (c : Course). c.log) course-v) (log-along profile slices w.ran w.was w.along ∙ ap (λ (c : Course). c.log) course-w) (le-or_lt v.ran w.ran)
 
 -- the answer that it gave then is the one that it has
-answer-then : (profile slices r : ℕ) (s : SoloMachine) (v : WasAnswered profile slices r s) (a : Answer) → slice_get s.answers r ≡ Some a → slice_get v.was.answers r ≡ Some a
+answer-then : (profile : Profile) (slices r : ℕ) (s : SoloMachine) (v : WasAnswered profile slices r s) (a : Answer) → slice_get s.answers r ≡ Some a → slice_get v.was.answers r ≡ Some a
 answer-then profile slices r s v a e =
     let x : Answer = get_or v.was.answers r OutOfStarts in
     let at : slice_get v.was.answers r ≡ Some x = slice_get-get_or v.was.answers r OutOfStarts v.answered_then in
@@ -275,15 +276,15 @@ answer-then profile slices r s v a e =
     let same : x ≡ a = cc in
     subst (λ (y : Answer). slice_get v.was.answers r ≡ Some y) same at
 
-was-answered : (profile slices r : ℕ) (s : SoloMachine) (a : Answer) → Stands profile slices r s → slice_get s.answers r ≡ Some a → WasAnswered profile slices r s
+was-answered : (profile : Profile) (slices r : ℕ) (s : SoloMachine) (a : Answer) → Stands profile slices r s → slice_get s.answers r ≡ Some a → WasAnswered profile slices r s
 was-answered profile slices r s a (inl few) e = let within : r < length s.answers = slice_get_within s.answers r a e in absurd (omega (arith, few, within))
 was-answered profile slices r s a (inr w) e = w
 
 -- what was told then is what is told now
-told-then : (profile slices r : ℕ) (s : SoloMachine) (v : WasAnswered profile slices r s) (a : Answer) → MachineInvariant s → slice_get s.answers r ≡ Some a → body_by s r a ≡ body_by v.was r a
+told-then : (profile : Profile) (slices r : ℕ) (s : SoloMachine) (v : WasAnswered profile slices r s) (a : Answer) → MachineInvariant s → slice_get s.answers r ≡ Some a → body_by s r a ≡ body_by v.was r a
 told-then profile slices r s v a kept e = sym (told-same v.was s r a v.kept kept (inl (v.lines, v.log)) (sym v.same) (answer-then profile slices r s v a e) e)
 
-traced-agree : (profile slices r : ℕ) (s t : SoloMachine) → IsTraced profile slices r s → IsTraced profile slices r t → take (r + 1) s.revisions ≡ take (r + 1) t.revisions → AgreeOn r s t
+traced-agree : (profile : Profile) (slices r : ℕ) (s t : SoloMachine) → IsTraced profile slices r s → IsTraced profile slices r t → take (r + 1) s.revisions ≡ take (r + 1) t.revisions → AgreeOn r s t
 traced-agree profile slices r s t h k alike = record { answers = answers; replies = λ key a b e f. replies key a b (subst (λ (n : ℕ). reply key n s ≡ Some a) next e) (subst (λ (n : ℕ). reply key n t ≡ Some b) next f) }
   where
     next : r + 1 ≡ suc r
@@ -303,10 +304,10 @@ traced-agree profile slices r s t h k alike = record { answers = answers; replie
         let theirs : slice_get w.was.answers r ≡ Some x = subst (λ (z : Answer). slice_get w.was.answers r ≡ Some z) (sym same) (answer-then profile slices r t w y q) in
         let between : body_by v.was r x ≡ body_by w.was r x = told-same v.was w.was r x v.kept w.kept (were-fronts profile slices r s t v w alike) (sym v.same ∙ (alike ∙ w.same)) (answer-then profile slices r s v x p) theirs in
         let all : body_by s r x ≡ body_by t r y = told-then profile slices r s v x h.kept p ∙ (between ∙ (ap (body_by w.was r) same ∙ sym (told-then profile slices r t w y k.kept q))) in
-        sym i ∙ (ap (reply_text key.tenant key.job (suc r) s.ask.profile) all ∙ (ap (λ (p : ℕ). reply_text key.tenant key.job (suc r) p (body_by t r y)) (h.on.1.alone.solvers ∙ sym k.on.1.alone.solvers) ∙ j))
+        sym i ∙ (ap (reply_text key.tenant key.job (suc r) s.ask.profile) all ∙ (ap (λ (p : Profile). reply_text key.tenant key.job (suc r) p (body_by t r y)) (h.on.1.alone.solvers ∙ sym k.on.1.alone.solvers) ∙ j))
 
     replies : (key : Key) (a b : List ℕ) → reply key (suc r) s ≡ Some a → reply key (suc r) t ≡ Some b → a ≡ b
     replies key a b e f = by_answers key a b (reply-at key s r a e) (reply-at key t r b f)
 
 pub singles-agree_up_to : SinglesAgreeUpTo
-singles-agree_up_to ask asked own others r budget solvers one other alike = traced-agree ask.profile ask.slices r (solo (Opened ask ∷ own)) (solo (Opened asked ∷ others)) (single-traced ask own r one) (subst (λ (p : ℕ). IsTraced p ask.slices r (solo (Opened asked ∷ others))) (sym solvers) (subst (λ (k : ℕ). IsTraced asked.profile k r (solo (Opened asked ∷ others))) (sym budget) (single-traced asked others r other))) alike
+singles-agree_up_to ask asked own others r budget solvers one other alike = traced-agree ask.profile ask.slices r (solo (Opened ask ∷ own)) (solo (Opened asked ∷ others)) (single-traced ask own r one) (subst (λ (p : Profile). IsTraced p ask.slices r (solo (Opened asked ∷ others))) (sym solvers) (subst (λ (k : ℕ). IsTraced asked.profile k r (solo (Opened asked ∷ others))) (sym budget) (single-traced asked others r other))) alike

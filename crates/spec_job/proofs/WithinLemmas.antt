@@ -8,10 +8,12 @@ use Rattle.spec_node.specs.State.{Node}
 use Rattle.spec_node.specs.Sound.{IsLiteralOf, AreLiteralsOf}
 use Rattle.spec_search.specs.Slice.{slice}
 use Rattle.spec_search.proofs.LineLemmas.{lines-stay_within}
-use Rattle.spec_proof.proofs.Among.{Among, among-append, of-all}
+use Rattle.spec_proof.specs.Among.{Among}
+use Rattle.spec_proof.proofs.Among.{among-append, of-all}
 use Rattle.spec_job.specs.Models.{variables_of}
 use Rattle.spec_job.proofs.LoadedLemmas.{variables-more, HasLoaded}
-use Rattle.spec_job.proofs.LinesLemmas.{IsOfLine, of-line-later}
+use Rattle.spec_search.specs.Covering.{IsOfLine}
+use Rattle.spec_search.proofs.LinesLemmas.{of-line-later}
 use Rattle.spec_job.proofs.TrackedLemmas.{take-split, take-more}
 use Rattle.spec_job.proofs.ImportingLemmas.{IsSaid, AreWithin}
 
@@ -48,6 +50,6 @@ within-slice revisions log k m n low loaded h line a = by_side (among-append log
     by_side (inl b) = h line b
     by_side (inr b) = within-later k m revisions (slice n).lines low (slice-within (take k revisions) n loaded) line b
 
--- what is told stays said where lines come behind
+-- what is told stays said where lines come after
 pub said-later : (log more : List Line) (told : List NumberedClause) → IsSaid log told → IsSaid (log ++ more) told
 said-later log more told h = record { lines = All-weaker (IsOfLine log) (IsOfLine (log ++ more)) (of-line-later log more) told h.lines; apart = h.apart }

@@ -14,7 +14,7 @@ use Rattle.spec_job.specs.Runnable.{IsRunnable}
 abbrev pub NoneIsDue : Type 0
 NoneIsDue = (s : SoloMachine) → s.volume ≤ 1 → is_exchange_due s ≡ false
 
--- a start did not want for memory
+-- a start did not run out of memory
 abbrev pub had_memory : Outcome → Bool
 had_memory Ran = true
 had_memory Starved = false
@@ -26,8 +26,8 @@ asks_for_one (Opened ask) = ask.demand == 1
 asks_for_one (Reasked w) = w.demand == 1
 asks_for_one event = true
 
--- an own event of a job whose demand is always 1, behind its opening: an ask that changes keeps that demand, no volume
--- is above 1, so that no exchange is due, and no start wants for memory
+-- an own event of a job whose demand is always 1, after its opening: an ask that changes keeps that demand, no volume
+-- is above 1, so that no exchange is due, and no start runs out of memory
 abbrev pub is_single : Own → Bool
 is_single (Opened ask) = false
 is_single (Revised r) = true

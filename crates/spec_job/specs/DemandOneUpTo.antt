@@ -1,4 +1,4 @@
--- A job that one node runs: what is asked about a revision is decided by the revisions up to it, whatever comes behind.
+-- A job that one node runs: what is asked about a revision is decided by the revisions up to it, whatever comes after.
 use Rattle.std.specs.Prelude.{◌≡◌, ℕ, ◌+◌, true, false, List, [], ◌∷◌, take, slice_get, Some}
 use Rattle.mal_base.specs.Asks.{Terms}
 use Rattle.mal_base.specs.declared.answer.Answer.{Answer}
@@ -19,13 +19,13 @@ pub record AgreeOn (r : ℕ) (s t : SoloMachine) : Type 0 where
 
 -- the answer and the reply to a revision of a job that one node runs are decided by its name, its budget, its solvers'
 -- profile and its revisions up to that one: where two runs have these alike, they agree on it, whatever revisions come
--- behind
+-- after
 abbrev pub SinglesAgreeUpTo : Type 0
 SinglesAgreeUpTo =
     (ask asked : Terms) (own others : List Own) (r : ℕ) → ask.slices ≡ asked.slices → ask.profile ≡ asked.profile → IsSingle ask own → IsSingle asked others
     → take (r + 1) (solo (Opened ask ∷ own)).revisions ≡ take (r + 1) (solo (Opened asked ∷ others)).revisions → AgreeOn r (solo (Opened ask ∷ own)) (solo (Opened asked ∷ others))
 
--- a run of a first revision, behind which another one stands from the start, and which is run after the first
+-- a run of a first revision, after which another one stands from the start, and which is run after the first
 abbrev pub first_with : Posted → List Own
 first_with later = Revised one_of_two ∷ Revised later ∷ Closed ∷ Volume 1 ∷ Started 0 ∷ Finished 0 Ran ∷ Started 0 ∷ Finished 0 Ran ∷ []
 

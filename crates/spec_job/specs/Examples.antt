@@ -2,6 +2,7 @@ use Rattle.std.specs.Prelude.{◌≡◌, ℕ, true, false, List, [], ◌∷◌, 
 use Rattle.mal_base.specs.Asks.{Terms, Weighed}
 use Rattle.mal_base.specs.NumberedClause.{NumberedClause, Line}
 use Rattle.mal_base.specs.declared.answer.Answer.TheVariants.{Satisfied, Refuted, Spent, OutOfStarts}
+use Rattle.mal_base.specs.declared.profile.Profile.TheVariants.{Plain, Lean}
 use Rattle.mal_base.specs.declared.verdict.Outcome.TheVariants.{Ran, Starved, Lost}
 use Rattle.mal_revision.specs.Posted.{Posted}
 use Rattle.spec_node.specs.State.{fresh}
@@ -16,11 +17,11 @@ use Rattle.spec_job.specs.DemandOne.{is_single, IsSingle}
 
 -- an ask of this demand with these slices, for solvers of profile 1
 abbrev pub ask : ℕ → ℕ → Terms
-ask demand slices = record { priority = 1; demand = demand; slices = slices; profile = 1 }
+ask demand slices = record { priority = 1; demand = demand; slices = slices; profile = Plain }
 
 -- the same for solvers of profile 2
 abbrev pub second_ask : ℕ → ℕ → Terms
-second_ask demand slices = record { priority = 1; demand = demand; slices = slices; profile = 2 }
+second_ask demand slices = record { priority = 1; demand = demand; slices = slices; profile = Lean }
 
 -- this priority and this demand in place of those of an ask
 abbrev pub weight : ℕ → ℕ → Weighed
@@ -128,16 +129,16 @@ pub record HasExchanges : Type 0 where
   pub once : (derived_before one_of_two (Exchanged ∷ Exchanged ∷ [])).broadcasts ≡ (numbered_clause 4294967296 (3 ∷ 5 ∷ []) ∷ []) ∷ [] ∷ []
   pub own : start_entries exchanged_once (place_at exchanged_once 0) ≡ Load one_of_two 2 ∷ Import (numbered_clause 4294967296 (3 ∷ 5 ∷ []) ∷ []) ∷ Run ∷ []
   pub other : start_entries exchanged_once (place_at exchanged_once 1) ≡ Load both_assumed 1 ∷ Load one_of_two 2 ∷ Import (numbered_clause 4294967296 (3 ∷ 5 ∷ []) ∷ []) ∷ Run ∷ []
-  pub imported : (replay 1 1 (Load four 1 ∷ Import (numbered_clause 4294967296 (3 ∷ []) ∷ []) ∷ [])).node.clauses ≡ numbered_clause 1 (2 ∷ 4 ∷ []) ∷ numbered_clause 2 (2 ∷ 5 ∷ []) ∷ numbered_clause 3 (3 ∷ 4 ∷ []) ∷ numbered_clause 4 (3 ∷ 5 ∷ []) ∷ numbered_clause 4294967296 (3 ∷ []) ∷ []
-  pub serial : (replay 1 1 (Load four 1 ∷ Import (numbered_clause 4294967296 (3 ∷ []) ∷ []) ∷ [])).node.serial ≡ 1
-  pub line_after : (replay 1 1 (Load four 1 ∷ Import (numbered_clause 4294967296 (3 ∷ []) ∷ []) ∷ Run ∷ [])).lines ≡ line 4294967361 [] (4294967296 ∷ 1 ∷ 2 ∷ []) ∷ []
+  pub imported : (replay Plain 1 (Load four 1 ∷ Import (numbered_clause 4294967296 (3 ∷ []) ∷ []) ∷ [])).node.clauses ≡ numbered_clause 1 (2 ∷ 4 ∷ []) ∷ numbered_clause 2 (2 ∷ 5 ∷ []) ∷ numbered_clause 3 (3 ∷ 4 ∷ []) ∷ numbered_clause 4 (3 ∷ 5 ∷ []) ∷ numbered_clause 4294967296 (3 ∷ []) ∷ []
+  pub serial : (replay Plain 1 (Load four 1 ∷ Import (numbered_clause 4294967296 (3 ∷ []) ∷ []) ∷ [])).node.serial ≡ 1
+  pub line_after : (replay Plain 1 (Load four 1 ∷ Import (numbered_clause 4294967296 (3 ∷ []) ∷ []) ∷ Run ∷ [])).lines ≡ line 4294967361 [] (4294967296 ∷ 1 ∷ 2 ∷ []) ∷ []
 
 -- worked examples of an ask that changes: the priority and the demand are the new ones, all else is as before, also what
 -- is out, and the answer is the same
 pub record HasReasked : Type 0 where
-  pub changed : reasked_out.ask ≡ record { priority = 5; demand = 1; slices = 4; profile = 1 }
+  pub changed : reasked_out.ask ≡ record { priority = 5; demand = 1; slices = 4; profile = Plain }
   pub rest : record reasked_out { ask = started_first.ask } ≡ started_first
-  pub twice : (solo (Opened (ask 2 4) ∷ Reasked (weight 5 1) ∷ Reasked (weight 3 64) ∷ [])).ask ≡ record { priority = 3; demand = 64; slices = 4; profile = 1 }
+  pub twice : (solo (Opened (ask 2 4) ∷ Reasked (weight 5 1) ∷ Reasked (weight 3 64) ∷ [])).ask ≡ record { priority = 3; demand = 64; slices = 4; profile = Plain }
   pub before : (solo (Opened (ask 2 4) ∷ Reasked (weight 5 1) ∷ Revised one_of_two ∷ Volume 1 ∷ Started 0 ∷ Finished 0 Ran ∷ [])).answers ≡ Satisfied (false ∷ true ∷ []) ∷ []
   pub while_out : (solo (Opened (ask 2 4) ∷ Revised one_of_two ∷ Volume 2 ∷ Started 0 ∷ Reasked (weight 5 1) ∷ Finished 0 Ran ∷ [])).answers ≡ Satisfied (false ∷ true ∷ []) ∷ []
 

@@ -1,14 +1,15 @@
 -- What nodes export, in the words of their journals: the short lines that a node's own slices derived since the last
 -- exchange in which it took part.
-use Rattle.std.specs.Prelude.{◌≡◌, ℕ, ◌≤◌, Bool, false, ◌&&◌, nat_le, List, [], ◌∷◌, ◌++◌, length, map, filter, drop, flat_map, if◌then◌else◌}
+use Rattle.std.specs.Prelude.{◌≡◌, ℕ, ◌≤◌, false, List, [], ◌∷◌, ◌++◌, length, map, filter, drop, flat_map, if◌then◌else◌}
 use Rattle.std.specs.List.{list_any}
+use Rattle.mal_base.specs.declared.profile.Profile.{Profile}
 use Rattle.mal_base.specs.NumberedClause.{NumberedClause, Line}
 use Rattle.mal_base.specs.declared.verdict.Outcome.TheVariants.{Ran}
 use Rattle.spec_node.specs.Load.{counted}
 use Rattle.spec_search.specs.Slice.{Sliced}
 use Rattle.spec_exchange.specs.Exchange.{broadcast}
 use Rattle.spec_job.specs.Journal.{JournalEntry, after_entry, replay}
-use Rattle.spec_job.specs.SoloMachine.{Own, Opened, Revised, Reasked, Closed, Volume, Started, Finished, Exchanged, SoloMachine, unopened, solo, solo_step, place_at, takes_part, exports_of}
+use Rattle.spec_job.specs.SoloMachine.{Own, Opened, Revised, Reasked, Closed, Volume, Started, Finished, Exchanged, SoloMachine, unopened, solo, solo_step, place_at, is_short, takes_part, exports_of}
 use Rattle.spec_job.specs.Counts.{is_opening}
 use Rattle.spec_job.specs.Examples.{ask, both_assumed, one_of_two, numbered_clause}
 
@@ -18,7 +19,7 @@ derived_from s [] = []
 derived_from s (e ∷ es) = (after_entry s e).lines ++ derived_from (after_entry s e) es
 
 -- the lines that the journal of a node of this profile and index derives after its first entries
-abbrev pub derived_after : ℕ → ℕ → List JournalEntry → List JournalEntry → List Line
+abbrev pub derived_after : Profile → ℕ → List JournalEntry → List JournalEntry → List Line
 derived_after profile i first entries = derived_from (replay profile i first) (drop (length first) entries)
 
 -- the journal with which a node last took part in an exchange, after one more event
@@ -40,10 +41,6 @@ exchanged_from i s last (o ∷ os) = exchanged_from i (solo_step s o) (exchanged
 -- the journal with which a node last took part in an exchange, empty before it first did
 abbrev pub journal_exchanged : ℕ → List Own → List JournalEntry
 journal_exchanged i events = exchanged_from i unopened [] events
-
--- a line is short: it has 1 to 16 literals
-abbrev pub is_short : Line → Bool
-is_short l = nat_le 1 (length l.lits) && nat_le (length l.lits) 16
 
 -- what a node has derived since then, as it is exported: the short lines, without their hints
 abbrev pub unexported : ℕ → List Own → List NumberedClause

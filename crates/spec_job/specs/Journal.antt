@@ -1,4 +1,5 @@
 use Rattle.std.specs.Prelude.{ℕ, ◌+◌, Bool, true, false, List, [], ◌∷◌, length, fold, count_by}
+use Rattle.mal_base.specs.declared.profile.Profile.{Profile}
 use Rattle.mal_revision.specs.Posted.{Posted}
 use Rattle.spec_node.specs.State.{fresh_with}
 use Rattle.spec_search.specs.Slice.{Sliced, slice}
@@ -20,7 +21,7 @@ after_entry s (Import exported) = record { node = imported exported s.node; line
 after_entry s Run = slice s.node
 
 -- the replay of a journal: the fresh node of the profile and the index, then each entry in turn
-abbrev pub replay : ℕ → ℕ → List JournalEntry → Sliced
+abbrev pub replay : Profile → ℕ → List JournalEntry → Sliced
 replay profile index entries = fold after_entry (record { node = fresh_with index profile; lines = [] }) entries
 
 -- whether an entry loads a revision

@@ -1,4 +1,5 @@
 use Rattle.std.specs.Prelude.{ℕ, List, ◌++◌}
+use Rattle.mal_base.specs.declared.profile.Profile.{Profile}
 use Rattle.spec_node.specs.State.{Node}
 use Rattle.spec_search.specs.Slice.{Sliced}
 use Rattle.spec_job.specs.Journal.{JournalEntry, replay}
@@ -7,7 +8,7 @@ use Rattle.spec_job.specs.Journal.{JournalEntry, replay}
 -- the number of the last start, and the entries in order
 pub record Journaled : Type 0 where
   pub job : ℕ
-  pub profile : ℕ
+  pub profile : Profile
   pub index : ℕ
   pub start : ℕ
   pub entries : List JournalEntry
@@ -20,7 +21,7 @@ replayed j = replay j.profile j.index j.entries
 abbrev pub node_of : Journaled → Node
 node_of j = (replayed j).node
 
--- a journal with these entries behind the others
+-- a journal with these entries after the others
 abbrev pub and_entries : Journaled → List JournalEntry → Journaled
 and_entries j adds = record { job = j.job; profile = j.profile; index = j.index; start = j.start; entries = j.entries ++ adds }
 

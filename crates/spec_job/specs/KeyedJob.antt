@@ -1,10 +1,5 @@
-use Rattle.std.specs.Prelude.{ℕ, List}
+pub use Rattle.mal_base.specs.declared.key.Key.{Key}
 use Rattle.spec_job.specs.SoloMachine.{SoloMachine, Own, solo_step}
-
--- a job is known by its tenant and its name
-pub record Key : Type 0 where
-  pub tenant : List ℕ
-  pub job : List ℕ
 
 -- a job with its machine
 pub record KeyedJob : Type 0 where

@@ -1,25 +1,27 @@
 use Rattle.std.specs.Prelude.{◌≡◌, ◌+◌, ◌<◌, ◌≤◌, true, false, List, [], ◌∷◌, ◌++◌, length, is_some}
 use Rattle.mal_base.specs.Asks.{Terms, Weighed, IsAsk, IsWeight}
 use Rattle.mal_base.specs.Formulas.{literals_of}
+use Rattle.mal_base.specs.Limits.{limits}
 use Rattle.mal_revision.specs.Posted.{Posted, is_posted}
 use Rattle.spec_job.specs.SoloMachine.{Own, Opened, Revised, Reasked, Closed, Volume, Started, Finished, Exchanged, SoloMachine, solo, startable, place_at, is_exchange_due, clauses_in, literals_in}
 use Rattle.spec_job.specs.Counts.{IsOpenedOnce}
 use Rattle.spec_job.specs.Runnable.{IsRunnable}
 
--- a job that is open takes its next revision, of which there are 256 at most with 2^20 clauses and 2^24 literals
+-- a job that is open takes its next revision, within what is served of revisions, of their clauses and of their
+-- literals
 pub record MayGrow (s : SoloMachine) (r : Posted) : Type 0 where
   pub open_still : s.closed ≡ false
   pub posted : is_posted r ≡ true
-  pub few : length s.revisions < 256
-  pub clauses : clauses_in s.revisions + length r.clauses ≤ 1048576
-  pub literals : literals_in s.revisions + literals_of r.clauses ≤ 16777216
+  pub few : length s.revisions < limits.revisions
+  pub clauses : clauses_in s.revisions + length r.clauses ≤ limits.clauses
+  pub literals : literals_in s.revisions + literals_of r.clauses ≤ limits.literals
 
 -- a job that is open may change what it asks for to a priority and a demand in form
 pub record MayWeigh (s : SoloMachine) (w : Weighed) : Type 0 where
   pub open_still : s.closed ≡ false
   pub weighed : IsWeight w
 
--- an event may come in a job's own life behind its opening
+-- an event may come in a job's own life after its opening
 abbrev pub MayPass : SoloMachine → Own → Type 0
 MayPass s (Opened ask) = ⊥
 MayPass s (Revised r) = MayGrow s r

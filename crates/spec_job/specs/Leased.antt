@@ -46,7 +46,7 @@ pub record HasRun (d : Finished) : Type 0 where
   pub verdict : d.verdict ≡ (node_of d.journal).verdict
   pub model : d.model ≡ model_with d.verdict (node_of d.journal)
 
--- a start that wanted for memory tells nothing
+-- a start that ran out of memory tells nothing
 pub record HasStarved (d : Finished) : Type 0 where
   pub lines : d.lines ≡ []
   pub verdict : d.verdict ≡ None
@@ -58,8 +58,8 @@ Tells Ran d = HasRun d
 Tells Starved d = HasStarved d
 Tells Lost d = ⊥
 
--- what became of a journal and its node where a start ended so: a start that ran has added its entries; one that wanted
--- for memory has added none, and its node is gone only where it was before
+-- what became of a journal and its node where a start ended so: a start that ran has added its entries; one that ran
+-- out of memory has added none, and its node is gone only where it was before
 abbrev pub Becomes : Outcome → Leased → Finished → Type 0
 Becomes Ran l d = d.journal ≡ and_entries l.journal l.adds
 Becomes Starved l d = (d.journal ≡ l.journal) × (d.gone ≡ true → l.gone ≡ true)

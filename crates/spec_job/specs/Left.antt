@@ -4,7 +4,7 @@ use Rattle.mal_base.specs.declared.verdict.Outcome.TheVariants.{Ran, Starved, Lo
 use Rattle.spec_job.specs.SoloMachine.{Own, Started, Finished, SoloMachine, solo, solo_step, startable}
 
 -- what a job may still run, at the most: for each revision without an answer the slices of its budget and three starts
--- that want for memory, without those of the current revision that were
+-- that run out of memory, without those of the current revision that were
 abbrev pub left_of : SoloMachine → ℕ
 left_of s = (length s.revisions - length s.answers) * (s.ask.slices + 3) - s.spent - s.starved
 
@@ -12,7 +12,7 @@ left_of s = (length s.revisions - length s.answers) * (s.ask.slices + 3) - s.spe
 abbrev pub after_start : SoloMachine → ℕ → Outcome → SoloMachine
 after_start s i outcome = solo_step (solo_step s (Started i)) (Finished i outcome)
 
--- a start that ran or wanted for memory leaves less to run, and one that was lost as much as before
+-- a start that ran or ran out of memory leaves less to run, and one that was lost as much as before
 pub record StartsLeaveLess (s : SoloMachine) (i : ℕ) : Type 0 where
   pub begun : left_of (solo_step s (Started i)) ≡ left_of s
   pub ran : left_of (after_start s i Ran) < left_of s

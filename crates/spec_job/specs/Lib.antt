@@ -22,3 +22,4 @@ pub mod UnknownExamples
 pub mod ProfileExamples
 pub mod Exported
 pub mod DemandOneUpTo
+pub mod OnePass

@@ -18,7 +18,7 @@ lits_at goal log = option_map_or (λ l. l.lits) (find (λ l. l.id == goal) log) 
 abbrev pub failed : ℕ → List Line → List ℕ
 failed goal log = map negated (lits_at goal log)
 
--- the lines of a log that a goal needs, numbered behind the clauses of the revisions up to this one, counted from 0
+-- the lines of a log that a goal needs, numbered after the clauses of the revisions up to this one, counted from 0
 abbrev pub proof_lines : List Posted → List Line → ℕ → ℕ → List Line
 proof_lines revisions log r goal = renumbered (length (clauses_through revisions r)) (reached goal log)
 

@@ -17,7 +17,7 @@ abbrev pub IsOwn : SoloMachine → NumberedClause → Type 0
 IsOwn s c = (numbered (clauses_of s.revisions) c.id ≡ Some (Some c.lits)) ⊎ IsLineOf s.log c
 
 -- a start that is out: the node that runs its slice, with what it lacked loaded and imported, holds clauses of the
--- job's own alone, and behind its slice the slice's new lines besides
+-- job's own alone, and after its slice the slice's new lines besides
 pub record IsOutOwn (s : SoloMachine) (index : ℕ) (entries : List JournalEntry) (l : Lease) : Type 0 where
   pub before : List JournalEntry
   pub adds : l.adds ≡ before ++ Run ∷ []

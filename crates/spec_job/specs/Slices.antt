@@ -5,7 +5,7 @@ use Rattle.spec_job.specs.SoloMachine.{Own, Slice, SoloMachine, solo}
 abbrev pub ends_in : List Slice → ℕ
 ends_in slices = length (filter (λ c. c.ends) slices)
 
--- the log of a machine has the lines of its slices, one slice behind another
+-- the log of a machine has the lines of its slices, one slice after another
 abbrev pub LogsAreSlices : Type 0
 LogsAreSlices = (events : List Own) → (solo events).log ≡ flat_map (λ c. c.lines) (solo events).slices
 

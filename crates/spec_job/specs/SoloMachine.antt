@@ -3,6 +3,7 @@ use Rattle.mal_base.specs.Asks.{Terms, Weighed, reasked}
 use Rattle.mal_base.specs.Formulas.{literals_of}
 use Rattle.mal_base.specs.declared.answer.Answer.{Answer}
 use Rattle.mal_base.specs.declared.answer.Answer.TheVariants.{Satisfied, Refuted, Spent, OutOfStarts}
+use Rattle.mal_base.specs.declared.profile.Profile.TheVariants.{Plain}
 use Rattle.mal_base.specs.declared.verdict.Verdict.{Verdict}
 use Rattle.mal_base.specs.declared.verdict.Verdict.TheVariants.{Satisfiable, Unsatisfiable}
 use Rattle.mal_base.specs.declared.verdict.Outcome.{Outcome}
@@ -65,7 +66,7 @@ pub record SoloMachine : Type 0 where
 
 -- the machine before its first event: 64 vacant places and nothing else
 abbrev pub unopened : SoloMachine
-unopened = record { ask = record { priority = 0; demand = 0; slices = 0; profile = 1 }; closed = false; volume = 0; revisions = []; answers = []; places = replicate 64 vacant; log = []; slices = []; broadcasts = []; ran = 0; spent = 0; starved = 0 }
+unopened = record { ask = record { priority = 0; demand = 0; slices = 0; profile = Plain }; closed = false; volume = 0; revisions = []; answers = []; places = replicate 64 vacant; log = []; slices = []; broadcasts = []; ran = 0; spent = 0; starved = 0 }
 
 -- revisions are answered in order: the current one is the first without an answer
 abbrev pub current : SoloMachine → ℕ
@@ -122,7 +123,7 @@ conclude None n s = spend s
 conclude (Some Satisfiable) n s = answered s (Satisfied (model_of n))
 conclude (Some (Unsatisfiable goal)) n s = answered s (Refuted goal)
 
--- the third start of a revision that reported want of memory answers unknown
+-- the third start of a revision that reported out of memory answers unknown
 abbrev pub starve : SoloMachine → SoloMachine
 starve s = if s.starved + 1 == 3 then answered s OutOfStarts else record s { starved = s.starved + 1 }
 
@@ -171,9 +172,13 @@ abbrev pub finished : SoloMachine → ℕ → NodeSlot → Option Lease → Outc
 finished s i p None outcome = s
 finished s i p (Some l) outcome = settled (finished_lease s i p l outcome)
 
--- whether a node that takes part in an exchange exports a line: it is one of its own, of 1 to 16 literals
+-- a line is short: it has 1 to 16 literals
+abbrev pub is_short : Line → Bool
+is_short l = nat_le 1 (length l.lits) && nat_le (length l.lits) 16
+
+-- whether a node that takes part in an exchange exports a line: it is a short one of its own
 abbrev pub is_exported : ℕ → Line → Bool
-is_exported i l = (l.id % 64 == i) && (nat_le 1 (length l.lits) && nat_le (length l.lits) 16)
+is_exported i l = (l.id % 64 == i) && is_short l
 
 -- what a place exports: of the lines that entered the log since the last exchange in which it took part
 abbrev pub exports_of : List Line → ℕ → NodeSlot → List NumberedClause

@@ -62,7 +62,7 @@ is_slice_of r e = (e.revision == r) && has_run e.outcome
 abbrev pub slices_of : ℕ → List Ending → List Ending
 slices_of r es = filter (is_slice_of r) es
 
--- the starved starts of a revision: those for it that wanted for memory, before it had its answer
+-- the starved starts of a revision: those for it that ran out of memory, before it had its answer
 abbrev pub is_starved_of : ℕ → Ending → Bool
 is_starved_of r e = (e.revision == r) && (not e.late && not (had_memory e.outcome))
 
@@ -75,7 +75,7 @@ pub record HasSpent (slices : ℕ) (es : List Ending) (r n : ℕ) : Type 0 where
   pub count : length (slices_of r es) ≡ n
   pub no_verdict : All (λ e. e.node.verdict ≡ None) (slices_of r es)
 
--- an answer without a verdict is accounted for: the budget was spent, or three starts of the revision wanted for memory
+-- an answer without a verdict is accounted for: the budget was spent, or three starts of the revision ran out of memory
 abbrev pub IsAccountedFor : ℕ → List Ending → ℕ → Answer → Type 0
 IsAccountedFor slices es r (Satisfied model) = Unit {0}
 IsAccountedFor slices es r (Refuted goal) = Unit {0}
@@ -93,12 +93,12 @@ IsVerdictOrSpent slices es r (Refuted goal) = Unit {0}
 IsVerdictOrSpent slices es r (Spent n) = HasSpent slices es r n
 IsVerdictOrSpent slices es r OutOfStarts = ⊥
 
--- whether an own event is no start that wanted for memory
+-- whether an own event is no start that ran out of memory
 abbrev pub is_fed : Own → Bool
 is_fed (Finished i outcome) = had_memory outcome
 is_fed event = true
 
--- where no start of a job wanted for memory, each answer is a verdict, or the whole budget was spent without one
+-- where no start of a job ran out of memory, each answer is a verdict, or the whole budget was spent without one
 abbrev pub FedAnswersDecide : List Own → Type 0
 FedAnswersDecide events = list_all is_fed events ≡ true → (r : ℕ) (a : Answer) → slice_get (solo events).answers r ≡ Some a → IsVerdictOrSpent (solo events).ask.slices (endings events) r a
 

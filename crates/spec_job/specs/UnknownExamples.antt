@@ -10,7 +10,7 @@ use Rattle.spec_job.specs.Examples.{ask, one_of_two, ready}
 abbrev pub four_out : List Own
 four_out = Opened (ask 4 8) ∷ Revised one_of_two ∷ Volume 4 ∷ Started 0 ∷ Started 1 ∷ Started 2 ∷ Started 3 ∷ []
 
--- the same where the starts of the first nodes wanted for memory
+-- the same where the starts of the first nodes ran out of memory
 abbrev pub three_starved : List Own
 three_starved = four_out ++ (Finished 0 Starved ∷ Finished 1 Starved ∷ Finished 2 Starved ∷ [])
 
@@ -25,7 +25,7 @@ starved_count r events = length (starved_of r (endings events))
 abbrev pub blank : ℕ → Ending
 blank r = record { revision = r; late = false; outcome = Ran; node = fresh 0 }
 
--- worked examples of starts that have ended: three that wanted for memory answer, and the fourth is late; a slice that
+-- worked examples of starts that have ended: three that ran out of memory answer, and the fourth is late; a slice that
 -- ran late, one that was lost, and one of a later revision; and what spends a budget of two slices
 pub record HasEndings : Type 0 where
   pub third_answers : (solo three_starved).answers ≡ OutOfStarts ∷ []

@@ -2,7 +2,7 @@
 //! and the laws about them as the contracts of functions without a body.
 #![tactic(auto)]
 
-ghost use Rattle.spec_job.specs.{Counts.{ReplaysCount, RunsAreFew}, DemandOne.{NoneIsDue, SinglesAgree}, DemandOneUpTo.{HasUpTo, SinglesAgreeUpTo}, Examples.{HasExamples, HasExchanges, HasReasked, HasRefutations, HasRunnable}, Exported.{ExchangesTellDerived, ExportsAreDerived, HasUnexported}, Following.{RunnableJournalsFollow}, Lawful.{LawfulIsOnce, LawfulIsRunnable}, Left.{LeftFalls}, ProfileExamples.{HasProfiles}, Provenance.{RunnableClausesOwn}, Runnable.{AnswersStay, RunnableAnswersFollow, RunnableAnswersRefute, RunnableAnswersSolve, RunnableLogsDerived}, Unknown.{RunnableAnswersAccountedFor, RunnableFedAnswersDecide}, UnknownExamples.{HasEndings}};
+ghost use Rattle.spec_job.specs.{Counts.{ReplaysCount, RunsAreFew}, DemandOne.{NoneIsDue, SinglesAgree}, DemandOneUpTo.{HasUpTo, SinglesAgreeUpTo}, Examples.{HasExamples, HasExchanges, HasReasked, HasRefutations, HasRunnable}, Exported.{ExchangesTellDerived, ExportsAreDerived, HasUnexported}, Following.{RunnableJournalsFollow}, Lawful.{LawfulIsOnce, LawfulIsRunnable}, Left.{LeftFalls}, OnePass.{NoneBeforeMarks, OnePassFindsAll}, ProfileExamples.{HasProfiles}, Provenance.{RunnableClausesOwn}, Runnable.{AnswersStay, RunnableAnswersFollow, RunnableAnswersRefute, RunnableAnswersSolve, RunnableLogsDerived}, Unknown.{RunnableAnswersAccountedFor, RunnableFedAnswersDecide}, UnknownExamples.{HasEndings}};
 
 /// The worked examples of a job's machine compute to the answers that are known, under either profile of its solvers,
 /// and own events may happen as they should.
@@ -72,8 +72,8 @@ pub fn left_falls()
 {}
 
 /// Each answer without a verdict is accounted for by the job's own events: as many slices as the budget were run for
-/// the revision, none of which gave a verdict, or just three starts of it wanted for memory before it was answered.
-/// Where none wanted for memory, each answer is a verdict, or the budget was spent.
+/// the revision, none of which gave a verdict, or just three starts of it ran out of memory before it was answered.
+/// Where none ran out of memory, each answer is a verdict, or the budget was spent.
 pub fn unknowns_are_accounted_for()
     ensures accounted { RunnableAnswersAccountedFor }
     ensures fed { RunnableFedAnswersDecide }
@@ -88,8 +88,15 @@ pub fn exports_are_derived()
     ensures examples { HasUnexported }
 {}
 
+/// One pass over the log, from the least mark of the places that take part on, finds what an exchange broadcasts: the
+/// number of a line tells which node derived it.
+pub fn one_pass_finds_the_exports()
+    ensures all { OnePassFindsAll }
+    ensures marks { NoneBeforeMarks }
+{}
+
 /// The answer and the reply to a revision of a job that one node runs are decided by its name, its budget, its solvers'
-/// profile and its revisions up to that one, whatever revisions come behind and whatever own events lie between them.
+/// profile and its revisions up to that one, whatever revisions come after and whatever own events lie between them.
 pub fn singles_agree_up_to()
     ensures agree { SinglesAgreeUpTo }
     ensures example { HasUpTo }

@@ -1,14 +1,14 @@
--- Nothing behind the first faulty job counts.
+-- Nothing after the first faulty job counts.
 use Rattle.std.proofs.Common.{◌≡◌, List, [], ◌∷◌, ◌++◌, Result, Ok, Err, refl, ap, ◌∙◌}
+use Rattle.mal_base.specs.declared.limits.Limits.{Limits}
 use Rattle.spec_dimacs.specs.Reading.{◌>>=◌}
-use Rattle.spec_script.specs.Limits.{Limits}
 use Rattle.spec_script.specs.Script.{ScriptedJob}
 use Rattle.serde_json.specs.Data.{Data}
 use Rattle.spec_json.specs.Reading.{with_job, with_jobs}
 use Rattle.spec_json.specs.Laws.{FaultIsFirst}
 use Rattle.spec_json.specs.declared.fault.JsonFault.{JsonFault}
 
--- the same behind jobs
+-- the same after jobs
 record IsFirstBehind (limits : Limits) (jobs : List ScriptedJob) (ds : List Data) (fault : JsonFault) : Type 0 where
   front : List Data
   faulty : Data
@@ -41,7 +41,7 @@ first-behind limits jobs (d ∷ ds) fault e = by_answer (λ after h. first-behin
         let same : x ≡ fault = cc in
         record { front = []; faulty = d; behind = ds; read = jobs; parts = refl; before = refl; own = q ∙ ap (λ (y : JsonFault). Err y) same }
 
--- what is read of a front goes on behind it
+-- what is read of a front goes on after it
 goes-on : (limits : Limits) (front others : List Data) (jobs read : List ScriptedJob) → with_jobs limits jobs front ≡ Ok read → with_jobs limits jobs (front ++ others) ≡ with_jobs limits read others
 goes-on limits [] others jobs read e = let same : jobs ≡ read = cc in ap (λ (js : List ScriptedJob). with_jobs limits js others) same
 goes-on limits (d ∷ front) others jobs read e = by_answer (λ after h. goes-on limits front others after read h) (with_job limits jobs d) e

@@ -8,7 +8,7 @@ use Rattle.mal_base.proofs.Sorting.{and-left, and-right, and-both}
 use Rattle.spec_text.specs.Numbers.{number_of}
 use Rattle.spec_dimacs.specs.Reading.{code_of}
 use Rattle.spec_dimacs.proofs.Numbers.{code_of-number_of, number_of-positive, number_of-negative}
-use Rattle.spec_json.specs.Numbers.{is_above, is_none, is_number_up_to}
+use Rattle.spec_json.specs.Numbers.{is_above, is_none}
 use Rattle.spec_json.specs.Reading.{literals}
 
 pub or-none : (a b : Bool) → (a || b) ≡ false → (a ≡ false) × (b ≡ false)
@@ -90,8 +90,6 @@ stands v (l ∷ ls) h =
       again = ap₂ (λ (x : ℕ) (xs : List ℕ). x ∷ xs) (code_of-number_of l two) rest.again;
     }
 
--- ---- numbers in a range
-
 -- a number that is not below 0
 pub not-negative : (z : ℤ) → int_lt z (pos 0) ≡ false → z ≡ pos (nat_abs z)
 not-negative (pos n) h = refl
@@ -99,16 +97,3 @@ not-negative (negsuc n) h = absurd (cc)
 
 pub not-below : (n : ℕ) → int_lt (pos n) (pos 0) ≡ false
 not-below n = low-test n 0 (omega arith)
-
-pub record IsUpTo (max : ℕ) (z : ℤ) : Type 0 where
-  pub own : z ≡ pos (nat_abs z)
-  pub some : 1 ≤ nat_abs z
-  pub low : nat_abs z ≤ max
-
-pub up-to : (max : ℕ) (z : ℤ) → is_number_up_to max z ≡ true → IsUpTo max z
-up-to max (pos n) h =
-    record { own = refl; some = leb-true 1 n (and-left _ _ h); low = leb-true n max (and-right (nat_le 1 n) _ h) }
-up-to max (negsuc n) h = absurd (cc)
-
-pub is-up-to : (max n : ℕ) → 1 ≤ n → n ≤ max → is_number_up_to max (pos n) ≡ true
-is-up-to max n some low = and-both _ _ (le-leb 1 n some) (le-leb n max low)

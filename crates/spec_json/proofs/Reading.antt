@@ -1,14 +1,15 @@
 -- A text spells a script exactly where reading gives it.
-use Rattle.std.proofs.Common.{◌≡◌, ℕ, ◌+◌, ◌≤◌, Bool, true, false, cond, ◌&&◌, ◌==◌, is_some, List, [], ◌∷◌, ◌++◌, codes, length, ℤ, pos, nat_abs, Option, Some, None, Result, Ok, refl, sym, ap, ap₂, ◌∙◌, arith, append_assoc, append-nil}
+use Rattle.std.proofs.Common.{◌≡◌, ℕ, ◌+◌, ◌≤◌, Bool, true, false, cond, ◌&&◌, ◌==◌, is_some, List, [], ◌∷◌, ◌++◌, codes, length, ℤ, pos, not, Option, Some, None, Result, Ok, refl, sym, ap, ap₂, ◌∙◌, arith, append_assoc, append-nil}
 use Rattle.std.specs.Prelude.{unwrap_or}
 use Rattle.std.specs.List.{count_by, list_all}
 use Rattle.std.specs.Option.{option_map_or}
 use Rattle.std.proofs.lemmas.Grind.{fold-append}
-use Rattle.mal_base.specs.Asks.{IsAsk, Terms}
+use Rattle.mal_base.specs.declared.limits.Limits.{Limits}
+use Rattle.mal_base.specs.Asks.{IsAsk, Terms, ask_of_numbers}
 use Rattle.mal_base.specs.Names.{is_name}
-use Rattle.mal_base.proofs.Sorting.{and-left, and-right, and-both}
+use Rattle.mal_base.proofs.Asked.{ask-again, numbers-of}
+use Rattle.mal_base.proofs.Sorting.{and-left, and-right}
 use Rattle.spec_dimacs.specs.Reading.{◌>>=◌}
-use Rattle.spec_script.specs.Limits.{Limits}
 use Rattle.spec_script.specs.Script.{ScriptedJob, Scripted, revisions, revisions_in}
 use Rattle.spec_script.specs.declared.step.Step.{Step}
 use Rattle.spec_script.specs.Reading.{has_room}
@@ -17,14 +18,14 @@ use Rattle.spec_script.proofs.Inversions.{bind_ok, not_refused, ok_is}
 use Rattle.spec_script.proofs.Again.{written-read}
 use Rattle.serde_json.specs.Data.{Data, null, boolean, number, string, array, object}
 use Rattle.serde_json.specs.Find.{get}
-use Rattle.spec_json.specs.Shape.{at, has, is_document_shape, has_ask_shape, has_job_frame, is_job_shape, is_list, is_list_of, is_name_text, is_revision, is_step_shape, items_in, jobs_in, json_in, key_count, steps_in, text_in, whole_in, whole_or}
-use Rattle.spec_json.specs.Numbers.{ask_in, has_ask_range, has_weight_range, is_number_up_to}
-use Rattle.spec_json.specs.Reading.{admitted, all_stepped, job_of, of_jobs, read_json, read_text, with_job, with_jobs}
+use Rattle.spec_json.specs.Shape.{at, has, is_document_shape, has_ask_shape, has_job_frame, is_job_shape, is_list, is_list_of, is_name_text, is_revision, is_step_shape, items_in, jobs_in, json_in, key_count, steps_in, text_in, whole_in}
+use Rattle.spec_json.specs.Numbers.{ask_in, profile_in}
+use Rattle.spec_json.specs.Reading.{admitted, all_stepped, asked, job_of, of_jobs, read_json, read_text, with_job, with_jobs}
 use Rattle.spec_json.specs.Grammar.{SaysAsk, SaysJob, SayJobs, SaySteps, Spells}
 use Rattle.spec_json.specs.Laws.{SpelledIsRead, SpelledIsReadAgain, SpelledIsScript}
 use Rattle.spec_json.specs.declared.fault.JsonFault.{JsonFault}
-use Rattle.spec_json.proofs.Numbering.{IsUpTo, is-up-to, low-test, not-above, up-to}
-use Rattle.spec_json.proofs.Steps.{Low, More, none-low, not-true, steps-said}
+use Rattle.spec_json.proofs.Numbering.{low-test, not-above}
+use Rattle.spec_json.proofs.Steps.{Low, More, none-low, steps-said}
 use Rattle.spec_json.proofs.StepsRead.{counted, goes, holds, steps-read}
 
 -- ---- the parts of a job
@@ -44,39 +45,21 @@ listed : (test : Data → Bool) (o : Option Data) → option_map_or (is_list_of 
 listed test None h = absurd (cc)
 listed test (Some d) h = and-right (is_list d) _ h
 
--- the ask of a value whose numbers are in range
-record HasAsk (d : Data) : Type 0 where
-  says : SaysAsk d (ask_in d)
-  form : IsAsk (ask_in d)
+-- the ask that a value says
+record HasAsk (d : Data) (ask : Terms) : Type 0 where
+  says : SaysAsk d ask
+  form : IsAsk ask
 
-ask-said : (d : Data) → has_ask_range d ≡ true → HasAsk d
-ask-said d h =
-    let weight : has_weight_range d ≡ true = and-left _ _ h in
-    let others : (is_number_up_to 4096 (whole_in (at (codes "slices") d)) && is_number_up_to 2 (whole_or (pos 1) (at (codes "profile") d))) ≡ true = and-right (has_weight_range d) _ h in
-    let priority : IsUpTo 1000 (whole_in (at (codes "priority") d)) = up-to 1000 _ (and-left _ _ weight) in
-    let demand : IsUpTo 64 (whole_in (at (codes "demand") d)) = up-to 64 _ (and-right (is_number_up_to 1000 (whole_in (at (codes "priority") d))) _ weight) in
-    let slices : IsUpTo 4096 (whole_in (at (codes "slices") d)) = up-to 4096 _ (and-left _ _ others) in
-    let profile : IsUpTo 2 (whole_or (pos 1) (at (codes "profile") d)) = up-to 2 _ (and-right (is_number_up_to 4096 (whole_in (at (codes "slices") d))) _ others) in
-    record {
-      says = record { priority = priority.own; demand = demand.own; slices = slices.own; profile = profile.own };
-      form = record { some_priority = priority.some; priority_bound = priority.low; some_demand = demand.some; demand_bound = demand.low; some_slices = slices.some; slices_bound = slices.low; some_profile = profile.some; profile_bound = profile.low };
-    }
+ask-said : (d : Data) (ask : Terms) → ask_in d ≡ Some ask → HasAsk d ask
+ask-said d ask e =
+    let of = numbers-of (whole_in (at (codes "priority") d)) (whole_in (at (codes "demand") d)) (whole_in (at (codes "slices") d)) (profile_in d) ask e in
+    record { says = record { priority = of.0.priority; demand = of.0.demand; slices = of.0.slices; profile = of.1 }; form = of.0.formed }
 
-ask-range : (d : Data) (ask : Terms) → SaysAsk d ask → IsAsk ask → has_ask_range d ≡ true
-ask-range d ask is form =
-    let priority : is_number_up_to 1000 (whole_in (at (codes "priority") d)) ≡ true = ap (is_number_up_to 1000) is.priority ∙ is-up-to 1000 ask.priority form.some_priority form.priority_bound in
-    let demand : is_number_up_to 64 (whole_in (at (codes "demand") d)) ≡ true = ap (is_number_up_to 64) is.demand ∙ is-up-to 64 ask.demand form.some_demand form.demand_bound in
-    let slices : is_number_up_to 4096 (whole_in (at (codes "slices") d)) ≡ true = ap (is_number_up_to 4096) is.slices ∙ is-up-to 4096 ask.slices form.some_slices form.slices_bound in
-    let profile : is_number_up_to 2 (whole_or (pos 1) (at (codes "profile") d)) ≡ true = ap (is_number_up_to 2) is.profile ∙ is-up-to 2 ask.profile form.some_profile form.profile_bound in
-    and-both _ _ (and-both _ _ priority demand) (and-both _ _ slices profile)
-
-abbrev terms : ℤ → ℤ → ℤ → ℤ → Terms
-terms p d s q = record { priority = nat_abs p; demand = nat_abs d; slices = nat_abs s; profile = nat_abs q }
-
-ask-own : (d : Data) (ask : Terms) → SaysAsk d ask → ask_in d ≡ ask
-ask-own d ask is =
-    ap₂ (λ (p q : ℤ). terms p q (whole_in (at (codes "slices") d)) (whole_or (pos 1) (at (codes "profile") d))) is.priority is.demand
-    ∙ ap₂ (λ (p q : ℤ). terms (pos ask.priority) (pos ask.demand) p q) is.slices is.profile
+ask-read : (d : Data) (ask : Terms) → SaysAsk d ask → IsAsk ask → ask_in d ≡ Some ask
+ask-read d ask is form =
+    ap₂ (λ (p q : ℤ). ask_of_numbers p q (whole_in (at (codes "slices") d)) (profile_in d)) is.priority is.demand
+    ∙ ap₂ (λ (s q : ℤ). ask_of_numbers (pos ask.priority) (pos ask.demand) s q) is.slices is.profile
+    ∙ ask-again ask form
 
 -- the tenants of jobs with one more
 tenants-more : (jobs : List ScriptedJob) (j : ScriptedJob) → with_name (tenants_of jobs) j.tenant ≡ tenants_of (jobs ++ j ∷ [])
@@ -103,33 +86,42 @@ parts-of d h =
     let both : (has_ask_shape d && has (is_list_of is_step_shape) (codes "steps") d) ≡ true = and-right (key_count d == cond (is_some (get (codes "profile") d)) 7 6) _ frame in
     record { tenant = and-left _ _ names; name = and-right (has is_name_text (codes "tenant") d) _ names; steps = and-right (has_ask_shape d) _ both }
 
-job-said : (limits : Limits) (jobs : List ScriptedJob) (d : Data) (after : List ScriptedJob) → with_job limits jobs d ≡ Ok after → OneJob limits jobs d after
-job-said limits jobs d after e =
-    let a = not_refused _ _ _ after e in
-    let b = not_refused _ _ _ after a.1 in
-    let tenants = not_refused _ _ _ after b.1 in
+not-true : (b : Bool) → not b ≡ false → b ≡ true
+not-true true h = refl
+not-true false h = absurd (cc)
+
+admitted-said : (limits : Limits) (jobs : List ScriptedJob) (d : Data) (ask : Terms) (after : List ScriptedJob) → is_job_shape d ≡ true → HasAsk d ask → asked limits jobs d (Some ask) ≡ Ok after → OneJob limits jobs d after
+admitted-said limits jobs d ask after shape has-ask e =
+    let tenants = not_refused _ _ _ after e in
     let new = not_refused _ _ _ after tenants.1 in
     let room = not_refused _ _ _ after new.1 in
     let few = not_refused _ _ _ after room.1 in
-    let read = bind_ok (all_stepped (length jobs + 1) [] (steps_in d)) (λ (steps : List Step). Ok (jobs ++ job_of d steps ∷ [])) after few.1 in
-    let shape : is_job_shape d ≡ true = not-true _ a.0 in
+    let read = bind_ok (all_stepped (length jobs + 1) [] (steps_in d)) (λ (steps : List Step). Ok (jobs ++ job_of d ask steps ∷ [])) after few.1 in
     let has : HasParts d = parts-of d shape in
     let tenant = named (get (codes "tenant") d) has.tenant in
     let name = named (get (codes "name") d) has.name in
-    let ask : HasAsk d = ask-said d (not-true _ b.0) in
     let said : More (steps_in d) [] read.0 = steps-said (length jobs + 1) (steps_in d) [] read.0 (listed is_step_shape (get (codes "steps") d) has.steps) none-low read.1 in
     let say : SaySteps (steps_in d) read.0 = rw said.parts said.say in
     let count : count_by is_revision (steps_in d) ≡ length (revisions_in read.0) = counted (steps_in d) read.0 say in
     let fits : count_by is_revision (steps_in d) ≤ limits.revisions = not-above limits.revisions _ few.0 in
     let low : Low read.0 = said.low in
-    let form : IsJob limits (job_of d read.0) = record { tenant = tenant.1; name = name.1; ask = ask.form; few = omega arith; formed = low.formed; clauses = low.clauses; literals = low.literals } in
+    let form : IsJob limits (job_of d ask read.0) = record { tenant = tenant.1; name = name.1; ask = has-ask.form; few = omega arith; formed = low.formed; clauses = low.clauses; literals = low.literals } in
     let bound : length (with_name (tenants_of jobs) (text_in (at (codes "tenant") d))) ≤ limits.tenants = not-above limits.tenants _ tenants.0 in
     record {
-      job = job_of d read.0;
+      job = job_of d ask read.0;
       parts = sym (ok_is _ _ read.2);
-      says = record { shape = shape; tenant = tenant.0; name = name.0; ask = ask.says; steps = say };
-      follows = record { formed = form; new = new.0; room = not-true _ room.0; tenants = rw (sym (tenants-more jobs (job_of d read.0))) bound };
+      says = record { shape = shape; tenant = tenant.0; name = name.0; ask = has-ask.says; steps = say };
+      follows = record { formed = form; new = new.0; room = not-true _ room.0; tenants = rw (sym (tenants-more jobs (job_of d ask read.0))) bound };
     }
+
+job-said : (limits : Limits) (jobs : List ScriptedJob) (d : Data) (after : List ScriptedJob) → with_job limits jobs d ≡ Ok after → OneJob limits jobs d after
+job-said limits jobs d after e =
+    let a = not_refused _ _ _ after e in
+    by_ask (not-true _ a.0) (ask_in d) refl a.1
+  where
+    by_ask : is_job_shape d ≡ true → (o : Option Terms) → ask_in d ≡ o → asked limits jobs d o ≡ Ok after → OneJob limits jobs d after
+    by_ask shape None q h = absurd (cc)
+    by_ask shape (Some ask) q h = admitted-said limits jobs d ask after shape (ask-said d ask q) h
 
 record MoreJobs (limits : Limits) (jobs : List ScriptedJob) (ds : List Data) (after : List ScriptedJob) : Type 0 where
   more : List ScriptedJob
@@ -153,10 +145,8 @@ jobs-said limits jobs (d ∷ ds) after e =
 abbrev a_job : List ℕ → List ℕ → Terms → List Step → ScriptedJob
 a_job tenant name ask steps = record { tenant = tenant; name = name; ask = ask; steps = steps }
 
-job-own : (d : Data) (j : ScriptedJob) → SaysJob d j → job_of d j.steps ≡ j
-job-own d j is =
-    ap₂ (λ (t n : Option Data). a_job (text_in (unwrap_or t null)) (text_in (unwrap_or n null)) (ask_in d) j.steps) is.tenant is.name
-    ∙ ap (λ (ask : Terms). a_job j.tenant j.name ask j.steps) (ask-own d j.ask is.ask)
+job-own : (d : Data) (j : ScriptedJob) → SaysJob d j → job_of d j.ask j.steps ≡ j
+job-own d j is = ap₂ (λ (t n : Option Data). a_job (text_in (unwrap_or t null)) (text_in (unwrap_or n null)) j.ask j.steps) is.tenant is.name
 
 job-read : (limits : Limits) (jobs : List ScriptedJob) (d : Data) (j : ScriptedJob) → SaysJob d j → MayFollow limits jobs j → with_job limits jobs d ≡ Ok (jobs ++ j ∷ [])
 job-read limits jobs d j is may =
@@ -166,13 +156,13 @@ job-read limits jobs d j is may =
     let few : length (revisions j) ≤ limits.revisions = form.few in
     let bound : count_by is_revision (steps_in d) ≤ limits.revisions = omega arith in
     goes _ _ _ (holds (is_job_shape d) is.shape)
-    ∙ goes _ _ _ (holds (has_ask_range d) (ask-range d j.ask is.ask form.ask))
-    ∙ ap₂ (λ (t n : Option Data). admitted limits jobs (text_in (unwrap_or t null)) (text_in (unwrap_or n null)) d) is.tenant is.name
+    ∙ ap (λ (o : Option Terms). asked limits jobs d o) (ask-read d j.ask is.ask form.ask)
+    ∙ ap₂ (λ (t n : Option Data). admitted limits jobs (text_in (unwrap_or t null)) (text_in (unwrap_or n null)) d j.ask) is.tenant is.name
     ∙ goes _ _ _ (low-test limits.tenants _ tenants)
     ∙ goes _ _ _ may.new
     ∙ goes _ _ _ (holds (has_room limits j.tenant jobs) may.room)
     ∙ goes _ _ _ (low-test limits.revisions _ bound)
-    ∙ ap (λ (x : Result (List Step) JsonFault). x >>= λ steps. Ok (jobs ++ job_of d steps ∷ [])) (steps-read (length jobs + 1) (steps_in d) [] j.steps is.steps (record { clauses = form.clauses; literals = form.literals }))
+    ∙ ap (λ (x : Result (List Step) JsonFault). x >>= λ steps. Ok (jobs ++ job_of d j.ask steps ∷ [])) (steps-read (length jobs + 1) (steps_in d) [] j.steps is.steps (record { clauses = form.clauses; literals = form.literals }))
     ∙ ap (λ (i : ScriptedJob). Ok (jobs ++ i ∷ [])) (job-own d j is)
 
 jobs-read : (limits : Limits) (jobs : List ScriptedJob) (ds : List Data) (more : List ScriptedJob) → SayJobs limits jobs ds more → with_jobs limits jobs ds ≡ Ok (jobs ++ more)

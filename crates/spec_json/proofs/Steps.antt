@@ -1,13 +1,16 @@
 -- What is read of the steps of a job, they say.
-use Rattle.std.proofs.Common.{◌≡◌, ℕ, ◌+◌, ◌≤◌, Bool, true, false, cond, not, ◌||◌, int_lt, List, [], ◌∷◌, ◌++◌, length, codes, pos, nat_abs, ◌==◌, Option, Some, None, Ok, refl, sym, ap, ◌∙◌, arith, append_assoc, append-nil}
+use Rattle.std.proofs.Common.{◌≡◌, ℕ, ◌+◌, ◌≤◌, Bool, true, false, cond, ◌&&◌, ◌||◌, nat_le, int_lt, List, [], ◌∷◌, ◌++◌, length, codes, pos, nat_abs, ◌==◌, Option, Some, None, Ok, refl, sym, ap, ◌∙◌, arith, append_assoc, append-nil}
 use Rattle.std.specs.List.{list_all, list_any}
 use Rattle.std.proofs.lemmas.Bool.{le-leb}
 use Rattle.std.proofs.lemmas.Bool.Decides.{nat_tests}
 use Rattle.std.proofs.lemmas.List.Folds.{list_all-append}
 use Rattle.std.proofs.lemmas.List.Sums.{sum_by_push}
 use Rattle.std.proofs.lemmas.Grind.{flat_map-append}
+use Rattle.mal_base.specs.Limits.{limits}
+use Rattle.mal_base.specs.Asks.{IsWeight, Weighed}
 use Rattle.mal_base.specs.Clauses.{clash}
 use Rattle.mal_base.specs.Formulas.{literals_of}
+use Rattle.mal_base.proofs.Asked.{AreOfWeight, numbers-of-weight}
 use Rattle.mal_base.proofs.Sorting.{and-left, and-right, and-both}
 use Rattle.mal_revision.specs.Posted.{Posted, is_posted}
 use Rattle.spec_dimacs.specs.Merged.{sorted}
@@ -18,26 +21,26 @@ use Rattle.spec_script.specs.Formed.{clauses_of, clause_literals, is_step}
 use Rattle.spec_script.proofs.Inversions.{bind_ok, not_refused, ok_is}
 use Rattle.serde_json.specs.Data.{Data}
 use Rattle.spec_json.specs.Shape.{at, is_revision, is_revision_shape, is_step_shape, is_weight_shape, key_count, whole_in}
-use Rattle.spec_json.specs.Numbers.{assumptions_in, clauses_in, has_number, has_weight_range, is_above, is_none, is_number_up_to, variables_in, weight_in}
-use Rattle.spec_json.specs.Reading.{all_stepped, literals, reasked, revised, revision_in, stepped, with_consistent, with_revision}
+use Rattle.spec_json.specs.Numbers.{assumptions_in, clauses_in, has_number, is_above, is_none, variables_in, weight_in}
+use Rattle.spec_json.specs.Reading.{all_stepped, literals, reasked, revised, revision_in, stepped, with_consistent, with_revision, with_weight}
 use Rattle.spec_json.specs.Grammar.{SaysRevision, SaysStep, SaySteps}
-use Rattle.spec_json.proofs.Numbering.{IsUpTo, not-above, not-negative, or-none, up-to}
+use Rattle.spec_json.proofs.Numbering.{not-above, not-negative, or-none}
 use Rattle.spec_json.proofs.Saying.{AllSaid, Assumed, all-said, assumed, say-all, say-assumed}
 
--- the steps of a job that are read: they are in form, with 2^20 clauses and 2^24 literals at most
+-- the steps of a job that are read: they are in form, with no more clauses and literals than are served
 pub record Low (steps : List Step) : Type 0 where
   pub formed : list_all is_step steps ≡ true
-  pub clauses : clauses_of (revisions_in steps) ≤ 1048576
-  pub literals : clause_literals (revisions_in steps) ≤ 16777216
+  pub clauses : clauses_of (revisions_in steps) ≤ limits.clauses
+  pub literals : clause_literals (revisions_in steps) ≤ limits.literals
 
 pub none-low : Low []
 none-low = record { formed = refl; clauses = omega arith; literals = omega arith }
 
--- the revisions of steps with one more behind them
+-- the revisions of steps with one more after them
 with-one : (steps : List Step) (r : Posted) → revisions_in (steps ++ Revise r ∷ []) ≡ revisions_in steps ++ r ∷ []
 with-one steps r = flat_map-append revisions_at steps (Revise r ∷ [])
 
-low-revision : (steps : List Step) (r : Posted) → Low steps → is_posted r ≡ true → clauses_of (revisions_in steps) + length r.clauses ≤ 1048576 → clause_literals (revisions_in steps) + literals_of r.clauses ≤ 16777216 → Low (steps ++ Revise r ∷ [])
+low-revision : (steps : List Step) (r : Posted) → Low steps → is_posted r ≡ true → clauses_of (revisions_in steps) + length r.clauses ≤ limits.clauses → clause_literals (revisions_in steps) + literals_of r.clauses ≤ limits.literals → Low (steps ++ Revise r ∷ [])
 low-revision steps r low form clauses literals =
     let more : clauses_of (revisions_in (steps ++ Revise r ∷ [])) ≡ clauses_of (revisions_in steps) + length r.clauses =
     ap clauses_of (with-one steps r) ∙ sum_by_push (λ (p : Posted). length p.clauses) (revisions_in steps) r in
@@ -49,7 +52,7 @@ low-revision steps r low form clauses literals =
       literals = rw longer literals;
     }
 
--- a step is behind those before
+-- a step is after those before
 record OneMore (d : Data) (steps after : List Step) : Type 0 where
   step : Step
   parts : after ≡ steps ++ step ∷ []
@@ -61,7 +64,7 @@ record OneMore (d : Data) (steps after : List Step) : Type 0 where
 -- a revision's numbers are in range
 record InRange (d : Data) : Type 0 where
   own : variables_in d ≡ pos (nat_abs (variables_in d))
-  few : nat_abs (variables_in d) ≤ 65536
+  few : nat_abs (variables_in d) ≤ limits.variables
   clause_some : list_any (list_any is_none) (clauses_in d) ≡ false
   clause_low : list_any (list_any (is_above (nat_abs (variables_in d)))) (clauses_in d) ≡ false
   assumed_some : list_any is_none (assumptions_in d) ≡ false
@@ -77,18 +80,18 @@ says-revision d shape is none = record {
 }
 
 -- what a value says is in form, where it is not too large
-pub revision-form : (d : Data) (r : Posted) → SaysRevision d r → length r.clauses ≤ 1048576 → literals_of r.clauses ≤ 16777216 → is_posted r ≡ true
+pub revision-form : (d : Data) (r : Posted) → SaysRevision d r → length r.clauses ≤ limits.clauses → literals_of r.clauses ≤ limits.literals → is_posted r ≡ true
 revision-form d r is clauses literals =
     let said : AllSaid r.variables (clauses_in d) r.clauses = all-said r.variables (clauses_in d) r.clauses is.clauses in
     let own : Assumed r.variables (assumptions_in d) r.assumptions = assumed r.variables (assumptions_in d) r.assumptions is.assumptions in
-    and-both _ _ (and-both _ _ (and-both _ _ (and-both _ _ (le-leb r.variables 65536 is.few) (le-leb (length r.clauses) 1048576 clauses)) (le-leb (literals_of r.clauses) 16777216 literals)) said.form) own.form
+    and-both _ _ (and-both _ _ (and-both _ _ (and-both _ _ (le-leb r.variables limits.variables is.few) (le-leb (length r.clauses) limits.clauses clauses)) (le-leb (literals_of r.clauses) limits.literals literals)) said.form) own.form
 
 revision-behind : (job : ℕ) (d : Data) (steps : List Step) (r : Posted) (after : List Step) → SaysRevision d r → Low steps → with_revision job steps r ≡ Ok after → OneMore d steps after
 revision-behind job d steps r after says low e =
     let a = not_refused _ _ _ after e in
     let b = not_refused _ _ _ after a.1 in
-    let clauses : clauses_of (revisions_in steps) + length r.clauses ≤ 1048576 = not-above 1048576 _ a.0 in
-    let literals : clause_literals (revisions_in steps) + literals_of r.clauses ≤ 16777216 = not-above 16777216 _ b.0 in
+    let clauses : clauses_of (revisions_in steps) + length r.clauses ≤ limits.clauses = not-above limits.clauses _ a.0 in
+    let literals : clause_literals (revisions_in steps) + literals_of r.clauses ≤ limits.literals = not-above limits.literals _ b.0 in
     let form : is_posted r ≡ true = revision-form d r says (omega arith) (omega arith) in
     let parts : steps ++ Revise r ∷ [] ≡ after = ok_is _ _ b.1 in
     record { step = Revise r; parts = sym parts; says = says; low = rw (sym parts) (low-revision steps r low form clauses literals) }
@@ -101,7 +104,7 @@ revision-said job d steps after shape low e =
     let some = or-none (int_lt (variables_in d) (pos 0)) (has_number is_none (clauses_in d) (assumptions_in d)) a.0 in
     let each = or-none (list_any (list_any is_none) (clauses_in d)) (list_any is_none (assumptions_in d)) some.1 in
     let under = or-none (list_any (list_any (is_above (nat_abs (variables_in d)))) (clauses_in d)) (list_any (is_above (nat_abs (variables_in d))) (assumptions_in d)) c.0 in
-    let range : InRange d = record { own = not-negative (variables_in d) some.0; few = not-above 65536 _ b.0; clause_some = each.0; clause_low = under.0; assumed_some = each.1; assumed_low = under.1 } in
+    let range : InRange d = record { own = not-negative (variables_in d) some.0; few = not-above limits.variables _ b.0; clause_some = each.0; clause_low = under.0; assumed_some = each.1; assumed_low = under.1 } in
     by_clash range (clash (sorted (literals (assumptions_in d)))) refl c.1
   where
     by_clash : InRange d → (o : Option ℕ) → clash (sorted (literals (assumptions_in d))) ≡ o → with_consistent job steps (revision_in d) o ≡ Ok after → OneMore d steps after
@@ -110,29 +113,33 @@ revision-said job d steps after shape low e =
 
 -- ---- a change of the ask
 
-pub not-true : (b : Bool) → not b ≡ false → b ≡ true
-not-true true h = refl
-not-true false h = absurd (cc)
+-- after steps stands a change to a weight that is in form
+low-weight : (steps : List Step) (w : Weighed) → Low steps → IsWeight w → Low (steps ++ Reask w ∷ [])
+low-weight steps w low is =
+    let priority : (nat_le 1 w.priority && nat_le w.priority limits.priority) ≡ true = and-both _ _ (le-leb 1 w.priority is.some_priority) (le-leb w.priority limits.priority is.priority_bound) in
+    let demand : (nat_le 1 w.demand && nat_le w.demand limits.demand) ≡ true = and-both _ _ (le-leb 1 w.demand is.some_demand) (le-leb w.demand limits.demand is.demand_bound) in
+    let form : is_step (Reask w) ≡ true = and-both _ _ priority demand in
+    let same : revisions_in (steps ++ Reask w ∷ []) ≡ revisions_in steps = flat_map-append revisions_at steps (Reask w ∷ []) ∙ append-nil (revisions_in steps) in
+    record {
+      formed = list_all-append is_step steps (Reask w ∷ []) ∙ and-both _ _ low.formed (and-both _ _ form refl);
+      clauses = rw same low.clauses;
+      literals = rw same low.literals;
+    }
 
 weight-said : (job : ℕ) (d : Data) (steps after : List Step) → is_weight_shape d ≡ true → Low steps → reasked job steps d ≡ Ok after → OneMore d steps after
-weight-said job d steps after shape low e =
-    let a = not_refused _ _ _ after e in
-    let range : has_weight_range d ≡ true = not-true _ a.0 in
-    let priority : IsUpTo 1000 (whole_in (at (codes "priority") d)) = up-to 1000 _ (and-left _ _ range) in
-    let demand : IsUpTo 64 (whole_in (at (codes "demand") d)) = up-to 64 _ (and-right (is_number_up_to 1000 (whole_in (at (codes "priority") d))) _ range) in
-    let parts : steps ++ Reask (weight_in d) ∷ [] ≡ after = ok_is _ _ a.1 in
-    let form : is_step (Reask (weight_in d)) ≡ true = and-both _ _ (and-both _ _ (le-leb 1 _ priority.some) (le-leb _ 1000 priority.low)) (and-both _ _ (le-leb 1 _ demand.some) (le-leb _ 64 demand.low)) in
-    let same : revisions_in (steps ++ Reask (weight_in d) ∷ []) ≡ revisions_in steps = flat_map-append revisions_at steps (Reask (weight_in d) ∷ []) ∙ append-nil (revisions_in steps) in
-    record {
-      step = Reask (weight_in d);
-      parts = sym parts;
-      says = record { shape = shape; priority = priority.own; demand = demand.own; formed = record { some_priority = priority.some; priority_bound = priority.low; some_demand = demand.some; demand_bound = demand.low } };
-      low = rw (sym parts) (record {
-        formed = list_all-append is_step steps (Reask (weight_in d) ∷ []) ∙ and-both _ _ low.formed (and-both _ _ form refl);
-        clauses = rw same low.clauses;
-        literals = rw same low.literals;
-      });
-    }
+weight-said job d steps after shape low e = by_weight (weight_in d) refl e
+  where
+    by_weight : (o : Option Weighed) → weight_in d ≡ o → with_weight job steps o ≡ Ok after → OneMore d steps after
+    by_weight None q h = absurd (cc)
+    by_weight (Some w) q h =
+        let of : AreOfWeight (whole_in (at (codes "priority") d)) (whole_in (at (codes "demand") d)) w = numbers-of-weight _ _ w q in
+        let parts : steps ++ Reask w ∷ [] ≡ after = ok_is _ _ h in
+        record {
+          step = Reask w;
+          parts = sym parts;
+          says = record { shape = shape; priority = of.priority; demand = of.demand; formed = of.formed };
+          low = rw (sym parts) (low-weight steps w low of.formed);
+        }
 
 -- ---- the steps of a job
 
@@ -162,7 +169,7 @@ step-said job d steps after shape low e = by_kind (is_revision d) refl e
     by_kind true q h = revision-said job d steps after (shape-of d shape q) low h
     by_kind false q h = weight-said job d steps after (weight-of d shape q) low h
 
--- steps are behind those before
+-- steps are after those before
 pub record More (ds : List Data) (steps after : List Step) : Type 0 where
   pub more : List Step
   pub parts : after ≡ steps ++ more

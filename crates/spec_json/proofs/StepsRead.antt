@@ -1,12 +1,14 @@
 -- The steps that values say are read of them.
-use Rattle.std.proofs.Common.{◌≡◌, ℕ, ◌+◌, ◌≤◌, Bool, true, false, cond, not, ◌||◌, ◌==◌, nat_lt, int_lt, List, [], ◌∷◌, ◌++◌, codes, map, length, ℤ, pos, nat_abs, Option, Result, Ok, Err, refl, sym, ap, ap₂, ◌∙◌, arith, append_assoc, append-nil}
+use Rattle.std.proofs.Common.{◌≡◌, ℕ, ◌+◌, ◌≤◌, Bool, true, false, cond, not, ◌||◌, ◌==◌, nat_lt, int_lt, List, [], ◌∷◌, ◌++◌, map, length, ℤ, pos, nat_abs, Option, Some, Result, Ok, Err, refl, sym, ap, ap₂, ◌∙◌, arith, append_assoc, append-nil}
 use Rattle.std.specs.List.{count_by}
 use Rattle.std.proofs.lemmas.List.Sums.{sum_by-append, sum_by-cons}
 use Rattle.std.proofs.lemmas.Grind.{flat_map-append}
 use Rattle.std.proofs.lemmas.Bool.Decides.{nat_tests}
-use Rattle.mal_base.specs.Asks.{Weighed}
+use Rattle.mal_base.specs.Limits.{limits}
+use Rattle.mal_base.specs.Asks.{Weighed, weight_of}
 use Rattle.mal_base.specs.Formulas.{literals_of}
-use Rattle.mal_base.proofs.Sorting.{and-left, and-both}
+use Rattle.mal_base.proofs.Asked.{weight-again}
+use Rattle.mal_base.proofs.Sorting.{and-left}
 use Rattle.mal_revision.specs.Posted.{Posted}
 use Rattle.spec_dimacs.specs.Merged.{sorted}
 use Rattle.spec_dimacs.specs.Reading.{◌>>=◌}
@@ -15,12 +17,12 @@ use Rattle.spec_script.specs.declared.step.Step.{Step}
 use Rattle.spec_script.specs.declared.step.Step.TheVariants.{Revise, Reask}
 use Rattle.spec_script.specs.Formed.{clauses_of, clause_literals}
 use Rattle.serde_json.specs.Data.{Data}
-use Rattle.spec_json.specs.Shape.{at, is_revision, key_count, whole_in}
-use Rattle.spec_json.specs.Numbers.{assumptions_in, clauses_in, has_number, has_weight_range, is_above, is_none, is_number_up_to, variables_in, weight_in}
-use Rattle.spec_json.specs.Reading.{all_stepped, literals, reasked, revised, revision_in, stepped, with_consistent, with_revision}
+use Rattle.spec_json.specs.Shape.{is_revision, key_count}
+use Rattle.spec_json.specs.Numbers.{assumptions_in, clauses_in, has_number, is_above, is_none, variables_in, weight_in}
+use Rattle.spec_json.specs.Reading.{all_stepped, literals, reasked, revised, revision_in, stepped, with_consistent, with_revision, with_weight}
 use Rattle.spec_json.specs.Grammar.{SaysRevision, SaysStep, SaysWeight, SaySteps}
 use Rattle.spec_json.specs.declared.fault.JsonFault.{JsonFault}
-use Rattle.spec_json.proofs.Numbering.{is-up-to, low-test, none-of, not-below}
+use Rattle.spec_json.proofs.Numbering.{low-test, none-of, not-below}
 use Rattle.spec_json.proofs.Saying.{AllSaid, Assumed, all-said, assumed, made}
 
 -- a test that does not hold lets go on, and one that holds
@@ -32,28 +34,28 @@ pub holds : (b : Bool) → b ≡ true → not b ≡ false
 holds true h = refl
 holds false h = absurd (cc)
 
--- the clauses and the literals of steps behind which others stand
+-- the clauses and the literals of steps after which others stand
 behind : (steps more : List Step) (r : Posted) → revisions_in (steps ++ Revise r ∷ more) ≡ revisions_in steps ++ r ∷ revisions_in more
 behind steps more r = flat_map-append revisions_at steps (Revise r ∷ more)
 
-clauses-behind : (steps more : List Step) (r : Posted) → clauses_of (revisions_in (steps ++ Revise r ∷ more)) ≤ 1048576 → clauses_of (revisions_in steps) + length r.clauses ≤ 1048576
+clauses-behind : (steps more : List Step) (r : Posted) → clauses_of (revisions_in (steps ++ Revise r ∷ more)) ≤ limits.clauses → clauses_of (revisions_in steps) + length r.clauses ≤ limits.clauses
 clauses-behind steps more r h =
     let all : clauses_of (revisions_in (steps ++ Revise r ∷ more)) ≡ clauses_of (revisions_in steps) + (length r.clauses + clauses_of (revisions_in more)) =
     ap clauses_of (behind steps more r) ∙ sum_by-append (λ (p : Posted). length p.clauses) (revisions_in steps) (r ∷ revisions_in more)
     ∙ ap (λ (n : ℕ). clauses_of (revisions_in steps) + n) (sum_by-cons (λ (p : Posted). length p.clauses) r (revisions_in more)) in
     omega arith
 
-literals-behind : (steps more : List Step) (r : Posted) → clause_literals (revisions_in (steps ++ Revise r ∷ more)) ≤ 16777216 → clause_literals (revisions_in steps) + literals_of r.clauses ≤ 16777216
+literals-behind : (steps more : List Step) (r : Posted) → clause_literals (revisions_in (steps ++ Revise r ∷ more)) ≤ limits.literals → clause_literals (revisions_in steps) + literals_of r.clauses ≤ limits.literals
 literals-behind steps more r h =
     let all : clause_literals (revisions_in (steps ++ Revise r ∷ more)) ≡ clause_literals (revisions_in steps) + (literals_of r.clauses + clause_literals (revisions_in more)) =
     ap clause_literals (behind steps more r) ∙ sum_by-append (λ (p : Posted). literals_of p.clauses) (revisions_in steps) (r ∷ revisions_in more)
     ∙ ap (λ (n : ℕ). clause_literals (revisions_in steps) + n) (sum_by-cons (λ (p : Posted). literals_of p.clauses) r (revisions_in more)) in
     omega arith
 
--- steps behind which others stand, all of them within the limits of a job
+-- steps after which others stand, all of them within the limits of a job
 pub record Within (steps : List Step) : Type 0 where
-  pub clauses : clauses_of (revisions_in steps) ≤ 1048576
-  pub literals : clause_literals (revisions_in steps) ≤ 16777216
+  pub clauses : clauses_of (revisions_in steps) ≤ limits.clauses
+  pub literals : clause_literals (revisions_in steps) ≤ limits.literals
 
 -- ---- a revision
 
@@ -67,7 +69,7 @@ revision-read job d steps more r is within =
     let own : Assumed r.variables (assumptions_in d) r.assumptions = assumed r.variables (assumptions_in d) r.assumptions is.assumptions in
     let some : (int_lt (variables_in d) (pos 0) || has_number is_none (clauses_in d) (assumptions_in d)) ≡ false =
     none-of _ _ (ap (λ (z : ℤ). int_lt z (pos 0)) is.variables ∙ not-below r.variables) (none-of _ _ said.some own.some) in
-    let few : nat_lt 65536 (nat_abs (variables_in d)) ≡ false = ap (λ (n : ℕ). nat_lt 65536 n) size ∙ low-test 65536 r.variables is.few in
+    let few : nat_lt limits.variables (nat_abs (variables_in d)) ≡ false = ap (λ (n : ℕ). nat_lt limits.variables n) size ∙ low-test limits.variables r.variables is.few in
     let low : has_number (is_above (nat_abs (variables_in d))) (clauses_in d) (assumptions_in d) ≡ false =
     ap (λ (n : ℕ). has_number (is_above n) (clauses_in d) (assumptions_in d)) size ∙ none-of _ _ said.low own.low in
     let same : revision_in d ≡ r =
@@ -77,21 +79,15 @@ revision-read job d steps more r is within =
     goes _ _ _ some ∙ goes _ _ _ few ∙ goes _ _ _ low
     ∙ ap (with_consistent job steps (revision_in d)) own.none
     ∙ ap (λ (p : Posted). with_revision job steps p) same
-    ∙ goes _ _ _ (low-test 1048576 _ (clauses-behind steps more r within.clauses))
-    ∙ goes _ _ _ (low-test 16777216 _ (literals-behind steps more r within.literals))
+    ∙ goes _ _ _ (low-test limits.clauses _ (clauses-behind steps more r within.clauses))
+    ∙ goes _ _ _ (low-test limits.literals _ (literals-behind steps more r within.literals))
 
 -- ---- a change of the ask
 
-abbrev weighed : ℕ → ℕ → Weighed
-weighed p q = record { priority = p; demand = q }
-
 weight-read : (job : ℕ) (d : Data) (steps : List Step) (w : Weighed) → SaysWeight d w → reasked job steps d ≡ Ok (steps ++ Reask w ∷ [])
 weight-read job d steps w is =
-    let priority : is_number_up_to 1000 (whole_in (at (codes "priority") d)) ≡ true = ap (is_number_up_to 1000) is.priority ∙ is-up-to 1000 w.priority is.formed.some_priority is.formed.priority_bound in
-    let demand : is_number_up_to 64 (whole_in (at (codes "demand") d)) ≡ true = ap (is_number_up_to 64) is.demand ∙ is-up-to 64 w.demand is.formed.some_demand is.formed.demand_bound in
-    let same : weight_in d ≡ w = ap₂ (λ (p q : ℤ). weighed (nat_abs p) (nat_abs q)) is.priority is.demand in
-    goes _ _ _ (holds (has_weight_range d) (and-both _ _ priority demand))
-    ∙ ap (λ (v : Weighed). Ok (steps ++ Reask v ∷ [])) same
+    let own : weight_in d ≡ Some w = ap₂ (λ (p q : ℤ). weight_of p q) is.priority is.demand ∙ weight-again w is.formed in
+    ap (λ (o : Option Weighed). with_weight job steps o) own
 
 -- ---- the steps of a job
 

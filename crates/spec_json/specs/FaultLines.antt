@@ -11,7 +11,7 @@ use Rattle.spec_json.specs.declared.fault.JsonFault.TheVariants.{NotJson, Shape,
 abbrev pub job_words : ℕ → List (List ℕ) → List (List ℕ)
 job_words job words = codes "job" ∷ decimal_word job ∷ words
 
--- the words that tell a fault; want of memory is none of the description
+-- the words that tell a fault; out of memory is none of the description
 abbrev pub fault_words : JsonFault → Option (List (List ℕ))
 fault_words NotJson = Some (codes "NotJson" ∷ [])
 fault_words (Shape job) = Some (job_words job (codes "Shape" ∷ []))
@@ -26,6 +26,6 @@ fault_words OutOfMemory = None
 abbrev pub line_of_words : List (List ℕ) → List ℕ
 line_of_words words = line_of (codes "fault:" ∷ codes "json" ∷ words)
 
--- the line that tells a fault, nothing for want of memory
+-- the line that tells a fault, nothing when out of memory
 abbrev pub fault_line : JsonFault → List ℕ
 fault_line fault = option_map_or line_of_words (fault_words fault) []

@@ -1,6 +1,6 @@
 -- What holds of every text, in the form in which the law functions state it.
 use Rattle.std.specs.Prelude.{◌≡◌, ℕ, ◌↔◌, List, [], ◌∷◌, ◌++◌, Ok, Err}
-use Rattle.spec_script.specs.Limits.{Limits}
+use Rattle.mal_base.specs.declared.limits.Limits.{Limits}
 use Rattle.spec_script.specs.Script.{ScriptedJob, Scripted, spelling}
 use Rattle.spec_script.specs.Formed.{IsScript}
 use Rattle.spec_script.specs.Reading as script
@@ -22,8 +22,8 @@ SpelledIsScript = (limits : Limits) (text : List ℕ) (s : Scripted) → Spells 
 abbrev pub SpelledIsReadAgain : Type 0
 SpelledIsReadAgain = (limits : Limits) (text : List ℕ) (s : Scripted) → Spells limits text s → script.read_text limits (spelling s) ≡ Ok s
 
--- the first fault of some values of jobs: so many of them are jobs, the fault is of the value behind them, and it is the
--- first whatever stands behind this one
+-- the first fault of some values of jobs: so many of them are jobs, the fault is of the value after them, and it is the
+-- first whatever stands after this one
 pub record IsFirst (limits : Limits) (ds : List Data) (fault : JsonFault) : Type 0 where
   pub front : List Data
   pub faulty : Data
@@ -33,6 +33,6 @@ pub record IsFirst (limits : Limits) (ds : List Data) (fault : JsonFault) : Type
   pub before : with_jobs limits [] front ≡ Ok jobs
   pub first : (others : List Data) → with_jobs limits [] (front ++ faulty ∷ others) ≡ Err fault
 
--- nothing behind the first faulty job counts
+-- nothing after the first faulty job counts
 abbrev pub FaultIsFirst : Type 0
 FaultIsFirst = (limits : Limits) (ds : List Data) (fault : JsonFault) → with_jobs limits [] ds ≡ Err fault → IsFirst limits ds fault

@@ -1,34 +1,22 @@
 -- What the numbers of a description have to be.
-use Rattle.std.specs.Prelude.{ℕ, ◌&&◌, ◌||◌, ◌==◌, Bool, ℤ, pos, int_le, nat_abs, nat_lt, List, map, codes}
+use Rattle.std.specs.Prelude.{ℕ, ◌||◌, ◌==◌, Bool, ℤ, pos, nat_abs, nat_lt, List, map, codes, Option}
 use Rattle.std.specs.List.{list_any}
-use Rattle.mal_base.specs.Asks.{Terms, Weighed}
+use Rattle.mal_base.specs.Asks.{Terms, Weighed, ask_of_numbers, weight_of}
+use Rattle.spec_text.specs.Asks.{first_profile}
 use Rattle.serde_json.specs.Data.{Data}
 use Rattle.spec_json.specs.Shape.{at, items_in, numbers_in, whole_in, whole_or}
 
--- a number is 1 to this one
-abbrev pub is_number_up_to : ℕ → ℤ → Bool
-is_number_up_to max z = int_le (pos 1) z && int_le z (pos max)
+-- of a step the priority and the demand; none where one is out of its range
+abbrev pub weight_in : Data → Option Weighed
+weight_in d = weight_of (whole_in (at (codes "priority") d)) (whole_in (at (codes "demand") d))
 
--- the priority is 1 to 1,000 and the demand 1 to 64
-abbrev pub has_weight_range : Data → Bool
-has_weight_range d = is_number_up_to 1000 (whole_in (at (codes "priority") d)) && is_number_up_to 64 (whole_in (at (codes "demand") d))
+-- the number of the profile that a job names: that of the first where it names none
+abbrev pub profile_in : Data → ℤ
+profile_in d = whole_or (pos first_profile) (at (codes "profile") d)
 
--- of a step the priority and the demand
-abbrev pub weight_in : Data → Weighed
-weight_in d = record { priority = nat_abs (whole_in (at (codes "priority") d)); demand = nat_abs (whole_in (at (codes "demand") d)) }
-
--- so they are, the slices are 1 to 4,096 and the profile, where there is one, 1 or 2
-abbrev pub has_ask_range : Data → Bool
-has_ask_range d = has_weight_range d && (is_number_up_to 4096 (whole_in (at (codes "slices") d)) && is_number_up_to 2 (whole_or (pos 1) (at (codes "profile") d)))
-
--- what a job asks for; its profile is 1 where it names none
-abbrev pub ask_in : Data → Terms
-ask_in d = record {
-  priority = nat_abs (whole_in (at (codes "priority") d));
-  demand = nat_abs (whole_in (at (codes "demand") d));
-  slices = nat_abs (whole_in (at (codes "slices") d));
-  profile = nat_abs (whole_or (pos 1) (at (codes "profile") d));
-}
+-- what a job asks for; none where a number is out of its range
+abbrev pub ask_in : Data → Option Terms
+ask_in d = ask_of_numbers (whole_in (at (codes "priority") d)) (whole_in (at (codes "demand") d)) (whole_in (at (codes "slices") d)) (profile_in d)
 
 -- of a revision the variables, the numbers of each clause and those of the assumptions
 abbrev pub variables_in : Data → ℤ

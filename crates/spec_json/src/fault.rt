@@ -7,7 +7,7 @@ use mal_base::{LimitKind, Var};
 use std::alloc::AllocError;
 use thiserror::Error;
 
-/// Why a text is not read as a description of jobs: the first thing that is wrong with it, or want of memory. Jobs count
+/// Why a text is not read as a description of jobs: the first thing that is wrong with it, or out of memory. Jobs count
 /// from 1; 0 is the document itself.
 #[derive(Clone, Copy, Debug, PartialEq, Eq, Drop, Error)]
 pub enum JsonFault {

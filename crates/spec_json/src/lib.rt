@@ -42,7 +42,7 @@ pub fn spelled_is_read_again()
     ensures { SpelledIsReadAgain }
 {}
 
-/// Nothing behind the first faulty job of a description counts.
+/// Nothing after the first faulty job of a description counts.
 #[tactic(auto, using(crate::proofs::Firsts::fault_is_first))]
 pub fn fault_is_first()
     ensures { FaultIsFirst }

@@ -68,7 +68,7 @@ one-of-var (x ∷ xs) l m r q a b = by_place (one-of-var xs l m (rises-rest x xs
     by_place f (inr c) (inl d) = absurd (later m l (eqb-true x m d) (sym q) c)
     by_place f (inr c) (inr d) = f c d
 
--- what holds behind a front
+-- what holds after a front
 pub behind-back : (P : List TrailEntry → TrailEntry → Type 0) (xs ys : List TrailEntry) → EachBehind P (xs ++ ys) → EachBehind P ys
 behind-back P [] ys h = h
 behind-back P (x ∷ xs) ys h = behind-back P xs ys h.1
@@ -111,7 +111,7 @@ failed-open n a h q = let t : not (is_true n.trail a) ≡ true = found-passes (�
 pub failed-member : (n : Node) (a : ℕ) → HasFailed n a → list_any (λ y. y == a) n.assumptions ≡ true
 failed-member n a h = found-in (λ x. not (is_true n.trail x)) n.assumptions a h.first
 
--- a part of a trail behind a front
+-- a part of a trail after a front
 pub back-true : (n : Node) (front past : List TrailEntry) (l : ℕ) → reverse n.trail ≡ front ++ past → is_true past l ≡ true → is_true n.trail l ≡ true
 back-true n front past l w q = sym (true-turned n.trail l) ∙ (ap (λ (t : List TrailEntry). is_true t l) w ∙ (list_any-append (λ e. e.lit == l) front past ∙ or_right _ _ q))
 

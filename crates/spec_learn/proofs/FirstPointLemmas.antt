@@ -11,7 +11,7 @@ use Rattle.spec_learn.specs.Analysis.{Walk, Aim, has_var, top, begun, vars_under
 use Rattle.spec_learn.specs.Analysis.Aim.{Learned}
 use Rattle.spec_learn.specs.FirstPoint.{walked_over, on_way, count_at, way_to, ResolvesAboveOne, WayEnds, HasFirstPoints}
 
--- the walk goes on behind the entries that it is over
+-- the walk goes on after the entries that it is over
 walk-on : (aim : Aim) (clauses : List NumberedClause) (front rest : List TrailEntry) (w : Walk) → walked aim clauses (front ++ rest) w ≡ walked aim clauses rest (walked_over aim clauses front rest w)
 walk-on aim clauses [] rest w = refl
 walk-on aim clauses (e ∷ front) rest w = walk-on aim clauses front rest (after_entry aim clauses e (front ++ rest) w)
@@ -42,7 +42,7 @@ left-counts level seen (e ∷ past) h = by_level (e.level == level) (has_var see
 longer : (r : ℕ) (hints : List ℕ) → hints ≡ r ∷ hints → ⊥
 longer r hints e = let more : length hints ≡ suc (length hints) = ap (λ (xs : List ℕ). length xs) e in absurd (omega (arith, more))
 
--- an entry that is seen and resolved away has another of its level behind it
+-- an entry that is seen and resolved away has another of its level after it
 resolved-left : (level : ℕ) (e : TrailEntry) (seen : List ℕ) (rest : List TrailEntry) → level ≢ 0 → e.level ≡ level → is_resolved (Learned level) e seen rest ≡ true → is_left level seen rest ≡ true
 resolved-left level e seen rest above same h =
     let not-zero : (e.level == 0) ≡ false = ne_eqb e.level 0 (λ zero_is. above (sym same ∙ zero_is)) in

@@ -9,7 +9,7 @@ use Rattle.spec_learn.specs.Learning.{derived_id}
 use Rattle.spec_learn.specs.Refuting.{refuted}
 use Rattle.spec_learn.proofs.SoundParts.{with-last, below-derived}
 
--- a number above all is not held, and a clause behind them is under it
+-- a number above all is not held, and a clause after them is under it
 none-under : (id : ℕ) (ds : List NumberedClause) → All (λ d. d.id < id) ds → lits_under id ds ≡ None
 none-under id [] h = refl
 none-under id (d ∷ ds) h =

@@ -1,7 +1,7 @@
--- What is learned under either profile.
-use Rattle.std.proofs.Common.{◌≡◌, ◌≢◌, ℕ, ◌+◌, ◌<◌, ◌≤◌, Bool, true, false, cond, List, [], length, reverse, Some, refl, ap}
-use Rattle.std.specs.Prelude.{◌==◌}
-use Rattle.std.proofs.lemmas.Bool.{eq-eqb, ne_eqb}
+-- What is learned under each profile.
+use Rattle.std.proofs.Common.{◌≡◌, ℕ, ◌+◌, ◌<◌, ◌≤◌, Bool, true, false, cond, List, [], length, reverse, Some, refl, ap}
+use Rattle.mal_base.specs.declared.profile.Profile.{Profile}
+use Rattle.mal_base.specs.Profiles.{policy}
 use Rattle.mal_base.specs.NumberedClause.{NumberedClause}
 use Rattle.mal_base.specs.declared.trail_entry.TrailEntry.{TrailEntry}
 use Rattle.spec_logic.specs.Derivation.{derivation}
@@ -22,27 +22,27 @@ use Rattle.spec_learn.proofs.WalkLemmas.{conflict-derived, longer-point, walk-fi
 use Rattle.spec_learn.proofs.ShorterLemmas.{shorter-derived, shorter-lesson, shorter-small, shorter-empty}
 
 -- what holds of the longer clause and of the shorter one holds of the one that a profile learns
-pub by-profile : (P : Analysed → Type 0) (profile : ℕ) (clauses : List NumberedClause) (past : List TrailEntry) (id : ℕ) → P (analysed clauses past id) → P (shortened clauses past id) → P (analysed_in profile clauses past id)
+pub by-profile : (P : Analysed → Type 0) (profile : Profile) (clauses : List NumberedClause) (past : List TrailEntry) (id : ℕ) → P (analysed clauses past id) → P (shortened clauses past id) → P (analysed_in profile clauses past id)
 unfolding analysed_in
-by-profile P profile clauses past id a b = by_test (profile == 2)
+by-profile P profile clauses past id a b = by_test (policy profile).minimizes
   where
     by_test : (t : Bool) → P (cond t (shortened clauses past id) (analysed clauses past id))
     by_test true = b
     by_test false = a
 
--- profile 2 learns the shorter clause, any other the longer one
-pub in-two : (profile : ℕ) (clauses : List NumberedClause) (past : List TrailEntry) (id : ℕ) → profile ≡ 2 → analysed_in profile clauses past id ≡ shortened clauses past id
+-- a profile that minimizes learns the shorter clause, any other the longer one
+pub in-shorter : (profile : Profile) (clauses : List NumberedClause) (past : List TrailEntry) (id : ℕ) → (policy profile).minimizes ≡ true → analysed_in profile clauses past id ≡ shortened clauses past id
 unfolding analysed_in
-in-two profile clauses past id q = ap (λ (b : Bool). cond b (shortened clauses past id) (analysed clauses past id)) (eq-eqb profile 2 q)
+in-shorter profile clauses past id q = ap (λ (b : Bool). cond b (shortened clauses past id) (analysed clauses past id)) q
 
-pub in-other : (profile : ℕ) (clauses : List NumberedClause) (past : List TrailEntry) (id : ℕ) → profile ≢ 2 → analysed_in profile clauses past id ≡ analysed clauses past id
+pub in-longer : (profile : Profile) (clauses : List NumberedClause) (past : List TrailEntry) (id : ℕ) → (policy profile).minimizes ≡ false → analysed_in profile clauses past id ≡ analysed clauses past id
 unfolding analysed_in
-in-other profile clauses past id q = ap (λ (b : Bool). cond b (shortened clauses past id) (analysed clauses past id)) (ne_eqb profile 2 q)
+in-longer profile clauses past id q = ap (λ (b : Bool). cond b (shortened clauses past id) (analysed clauses past id)) q
 
 pub learns-by_profile : LearnsByProfile
 learns-by_profile = record {
-  shorter = λ n id q. in-two n.profile n.clauses (reverse n.trail) id q;
-  longer = λ n id q. in-other n.profile n.clauses (reverse n.trail) id q;
+  shorter = λ n id q. in-shorter n.profile n.clauses (reverse n.trail) id q;
+  longer = λ n id q. in-longer n.profile n.clauses (reverse n.trail) id q;
 }
 
 longer-lesson : (n : Node) (id : ℕ) → IsSound n → n.conflict ≡ Some id → 0 < level_of n.trail → IsLesson n (longer_analysis id n)

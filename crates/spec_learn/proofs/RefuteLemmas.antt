@@ -20,7 +20,7 @@ all-last : (P : NumberedClause → Type 0) (xs : List NumberedClause) (y : Numbe
 all-last P [] y h p = All-cons P y [] p h
 all-last P (x ∷ xs) y h p = All-cons P x (xs ++ y ∷ []) (All-head P x xs h) (all-last P xs y (All-tail P x xs h) p)
 
--- a node with a derived clause behind the others
+-- a node with a derived clause after the others
 abbrev shaped : Node → List ℕ → List NumberedClause → Node
 shaped n lits clauses = record n { clauses = clauses; serial = n.serial + 1; verdict = Some (Unsatisfiable (derived_id n)) }
 

@@ -51,7 +51,7 @@ counted-has first (suc n) v l m = by_here (λ k. counted-has (first + 1) n v k (
     by_here f true q = refl
     by_here f false q = let other = eqb-false first v q in f (omega arith)
 
--- a clause with the greatest number goes behind the others
+-- a clause with the greatest number goes after the others
 pub with-last : (c : NumberedClause) (ds : List NumberedClause) → All (λ d. d.id < c.id) ds → with_clause c ds ≡ ds ++ c ∷ []
 with-last c [] h = refl
 with-last c (d ∷ ds) h =

@@ -1,5 +1,5 @@
 -- Conflict analysis (first unique implication point) and the final conflict. The trail stands latest first: a `past`
--- has its latest entry in front, and behind an entry stands what came before it.
+-- has its latest entry in front, and after an entry stands what came before it.
 use Rattle.std.specs.Prelude.{ℕ, max, Bool, true, false, ◌==◌, nat_lt, ◌&&◌, ◌||◌, List, [], ◌∷◌, ◌++◌, map, Option, Some, None, if◌then◌else◌}
 use Rattle.std.specs.List.{list_all, list_any}
 use Rattle.std.specs.Option.{option_map_or}

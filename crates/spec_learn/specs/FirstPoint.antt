@@ -1,6 +1,6 @@
--- The clause that is learned, of which profile 2 learns the shorter form, is that of the first implication point: on
--- its way from the conflict the clause has two literals of the current level or more, each time that another reason is
--- resolved with.
+-- The clause that is learned, in its shorter form where the profile minimizes, is that of the first implication point:
+-- on its way from the conflict the clause has two literals of the current level or more, each time that another reason
+-- is resolved with.
 use Rattle.std.specs.Prelude.{◌≡◌, ◌≢◌, ℕ, ◌≤◌, ◌==◌, List, [], ◌∷◌, ◌++◌, map, filter, count_by, Some, None}
 use Rattle.mal_base.specs.Literals.{var_of, negated}
 use Rattle.mal_base.specs.NumberedClause.{NumberedClause}
@@ -8,7 +8,7 @@ use Rattle.mal_base.specs.declared.trail_entry.TrailEntry.{TrailEntry}
 use Rattle.spec_learn.specs.Analysis.{Walk, Aim, has_var, top, begun, vars_under, after_entry, walked, walk_of, analysed}
 use Rattle.spec_learn.specs.Analysis.Aim.{Learned}
 
--- the walk over the entries of a trail, latest first, behind which these are still to come
+-- the walk over the entries of a trail, latest first, after which these are still to come
 abbrev pub walked_over : Aim → List NumberedClause → List TrailEntry → List TrailEntry → Walk → Walk
 walked_over aim clauses [] rest w = w
 walked_over aim clauses (e ∷ front) rest w = walked_over aim clauses front rest (after_entry aim clauses e (front ++ rest) w)
@@ -22,7 +22,7 @@ on_way w rest = w.kept ++ filter (λ e. has_var w.seen (var_of e.lit)) rest
 abbrev pub count_at : ℕ → List TrailEntry → ℕ
 count_at level es = count_by (λ e. e.level == level) es
 
--- how far the analysis of a conflict has come when it is at an entry behind which these are still to come
+-- how far the analysis of a conflict has come when it is at an entry after which these are still to come
 abbrev pub way_to : List NumberedClause → List TrailEntry → List TrailEntry → ℕ → Walk
 way_to clauses front rest id = walked_over (Learned (top (front ++ rest))) clauses front rest (begun (vars_under clauses id))
 
@@ -53,9 +53,9 @@ after_one = record { lit = 8; reason = Some 3; level = 1 } ∷ record { lit = 6;
 abbrev pub four_clauses : List NumberedClause
 four_clauses = record { id = 1; lits = 3 ∷ 4 ∷ [] } ∷ record { id = 2; lits = 5 ∷ 6 ∷ [] } ∷ record { id = 3; lits = 5 ∷ 8 ∷ [] } ∷ record { id = 4; lits = 7 ∷ 9 ∷ [] } ∷ []
 
--- worked examples in which the first implication point is not the decision: -2 is learned, by the reasons behind it
+-- worked examples in which the first implication point is not the decision: -2 is learned, by the reasons after it
 -- alone; the clause of the conflict has two literals of the level, and so has the first resolvent where there is one
--- behind it
+-- after it
 pub record HasFirstPoints : Type 0 where
   pub not_decision : analysed three_clauses after_not_one 3 ≡ record { lits = 5 ∷ []; hints = 2 ∷ 3 ∷ []; level = 0 }
   pub joined : analysed four_clauses after_one 4 ≡ record { lits = 5 ∷ []; hints = 2 ∷ 3 ∷ 4 ∷ []; level = 0 }

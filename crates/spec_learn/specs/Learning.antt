@@ -1,4 +1,6 @@
-use Rattle.std.specs.Prelude.{ℕ, ◌+◌, ◌*◌, ◌^◌, ◌==◌, if◌then◌else◌, List, [], ◌∷◌, ◌++◌, length, reverse, Option, Some, None, option_map}
+use Rattle.std.specs.Prelude.{ℕ, ◌+◌, ◌*◌, ◌^◌, if◌then◌else◌, List, [], ◌∷◌, ◌++◌, length, reverse, Option, Some, None, option_map}
+use Rattle.mal_base.specs.declared.profile.Profile.{Profile}
+use Rattle.mal_base.specs.Profiles.{policy, counted}
 use Rattle.mal_base.specs.NumberedClause.{NumberedClause, Line, lits_under}
 use Rattle.mal_base.specs.declared.trail_entry.TrailEntry.{TrailEntry}
 use Rattle.spec_logic.specs.Derivation.{Holding}
@@ -18,17 +20,18 @@ holding clauses id = option_map (λ (lits : List ℕ). Some lits) (lits_under id
 abbrev pub derived_id : Node → ℕ
 derived_id n = 2 ^ 32 + n.serial * 64 + n.index
 
--- the clause that a profile learns from a conflict: the first implication point's, and under profile 2 its shorter form
-unfoldable pub analysed_in : ℕ → List NumberedClause → List TrailEntry → ℕ → Analysed
-analysed_in profile clauses past id = if profile == 2 then shortened clauses past id else analysed clauses past id
+-- the clause that a profile learns from a conflict: that of the first implication point, in its shorter form where it
+-- minimizes
+unfoldable pub analysed_in : Profile → List NumberedClause → List TrailEntry → ℕ → Analysed
+analysed_in profile clauses past id = if (policy profile).minimizes then shortened clauses past id else analysed clauses past id
 
 -- the analysis of a conflict of a node
 abbrev pub analysis : ℕ → Node → Analysed
 analysis id n = analysed_in n.profile n.clauses (reverse n.trail) id
 
--- the conflicts learned since the last dropping, after one more: profile 1 drops nothing, and counts none
-abbrev pub counted_in : ℕ → ℕ → ℕ
-counted_in profile count = if profile == 2 then count + 1 else count
+-- the conflicts learned since the last dropping, after one more: a profile that reduces nothing counts none
+abbrev pub counted_in : Profile → ℕ → ℕ
+counted_in profile count = counted (policy profile).reduction count
 
 -- the line that a node derives from a conflict
 abbrev pub line_of : ℕ → Node → Line

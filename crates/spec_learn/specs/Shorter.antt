@@ -22,7 +22,7 @@ shorter_walk clauses past id = walked (Shortened (top past) clauses) clauses pas
 abbrev pub shortened : List NumberedClause → List TrailEntry → ℕ → Analysed
 shortened clauses past id = let w = shorter_walk clauses past id in record { lits = clause_of w.kept; hints = w.hints ++ id ∷ []; level = jump (top past) w.kept }
 
--- the clause of the first implication point of a conflict of a node, under either profile, and its shorter form
+-- the clause of the first implication point of a conflict of a node, under each profile, and its shorter form
 abbrev pub longer_analysis : ℕ → Node → Analysed
 longer_analysis id n = analysed n.clauses (reverse n.trail) id
 

@@ -1,5 +1,6 @@
-use Rattle.std.specs.Prelude.{◌≡◌, ◌≢◌, ℕ, ◌+◌, ◌<◌, ◌≤◌, true, false, ◌==◌, List, [], ◌∷◌, length, reverse, Some}
+use Rattle.std.specs.Prelude.{◌≡◌, ℕ, ◌+◌, ◌<◌, ◌≤◌, true, false, ◌==◌, List, [], ◌∷◌, length, reverse, Some}
 use Rattle.std.specs.List.{list_any}
+use Rattle.mal_base.specs.Profiles.{policy}
 use Rattle.spec_logic.specs.Derivation.{derivation}
 use Rattle.spec_logic.specs.Derivation.Derivation.{Derived}
 use Rattle.spec_node.specs.State.{Node}
@@ -19,7 +20,7 @@ LessonAsserts = (n : Node) (a : Analysed) → IsSound n → 0 < level_of n.trail
 abbrev pub LessonKeepsSound : Type 0
 LessonKeepsSound = (n : Node) (a : Analysed) → IsSound n → 0 < level_of n.trail → IsLesson n a → IsSound (taught a n)
 
--- the clause that is learned from a conflict is a lesson, under either profile, and learning from a conflict is to be
+-- the clause that is learned from a conflict is a lesson, under each profile, and learning from a conflict is to be
 -- taught it
 abbrev pub LearnedIsLesson : Type 0
 LearnedIsLesson = (n : Node) (id : ℕ) → IsSound n → n.conflict ≡ Some id → 0 < level_of n.trail → IsLesson n (analysis id n)
@@ -27,10 +28,10 @@ LearnedIsLesson = (n : Node) (id : ℕ) → IsSound n → n.conflict ≡ Some id
 abbrev pub LearnedIsTaught : Type 0
 LearnedIsTaught = (n : Node) (id : ℕ) → learned id n ≡ taught (analysis id n) n
 
--- under profile 2 the shorter clause is learned, under any other the one of the first implication point
+-- where the profile minimizes, the shorter clause is learned, elsewhere the one of the first implication point
 pub record LearnsByProfile : Type 0 where
-  pub shorter : (n : Node) (id : ℕ) → n.profile ≡ 2 → analysis id n ≡ shorter_analysis id n
-  pub longer : (n : Node) (id : ℕ) → n.profile ≢ 2 → analysis id n ≡ longer_analysis id n
+  pub shorter : (n : Node) (id : ℕ) → (policy n.profile).minimizes ≡ true → analysis id n ≡ shorter_analysis id n
+  pub longer : (n : Node) (id : ℕ) → (policy n.profile).minimizes ≡ false → analysis id n ≡ longer_analysis id n
 
 -- the shorter clause is a lesson
 abbrev pub ShorterIsLesson : Type 0

@@ -78,8 +78,8 @@ pub fn goal_is_held()
     ensures others { OthersStayHeld }
 {}
 
-/// Whatever clause is a lesson for a sound node asserts, and learning it keeps the node sound; what either profile
-/// learns is one, and learning from a conflict is to be taught it. Profile 2 learns the shorter form.
+/// Whatever clause is a lesson for a sound node asserts, and learning it keeps the node sound; what each profile
+/// learns is one, and learning from a conflict is to be taught it. A profile that minimizes learns the shorter form.
 pub fn lesson_keeps_sound()
     ensures asserts { LessonAsserts }
     ensures sound { LessonKeepsSound }

@@ -58,7 +58,7 @@ pub data Derivation : Type 0 where
   NotUnit : (id : ℕ) → Derivation
   Unfinished : Derivation
 
--- after a hint: the end, or how it ends with the hints behind
+-- after a hint: the end, or how it ends with the hints after
 abbrev pub ends_or : Effect → ℕ → Derivation → Derivation
 ends_or Missing id rest = Unknown id
 ends_or Passes id rest = rest

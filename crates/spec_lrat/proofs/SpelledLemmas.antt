@@ -5,7 +5,7 @@ use Rattle.std.specs.List.{list_any, AllByRecursion}
 use Rattle.std.proofs.lemmas.Slice.Eq.{bytes_eq-Decides}
 use Rattle.std.proofs.lemmas.List.{map-append}
 use Rattle.std.proofs.lemmas.Bool.{eqb-true, lt-leb, leb-false}
-use Rattle.mal_base.specs.Literals.{IsLiteral}
+use Rattle.mal_base.specs.Limits.{limits}
 use Rattle.spec_text.specs.Numbers.{NumberWord, number_of, number_in}
 use Rattle.spec_text.specs.Numbers.NumberWord.{NotANumber, TooLarge, Number}
 use Rattle.spec_logic.specs.Refutation.{ProofLine}
@@ -13,7 +13,7 @@ use Rattle.spec_logic.specs.Refutation.ProofLine.{Add, Delete}
 use Rattle.spec_dimacs.specs.Merged.{clause_of}
 use Rattle.spec_lrat.specs.Reading.{greatest_id, behind_l, is_negative, says_zero, is_end, before_end, behind_end, before_all, number_said, numbers_of, literal_said, literals_of, id_said, are_closed, ids_of, deleting, adding, added, behind_id, with_id, reading_of, reading}
 use Rattle.spec_lrat.specs.Reading.Fault.{BadNumber, MissingZero, IdNotRising, NegativeHint}
-use Rattle.spec_lrat.specs.Grammar.{SayClosed, SaysId, SayLiterals, SpellsAdd, SpellsDelete, Spells}
+use Rattle.spec_lrat.specs.Grammar.{IsServed, SayClosed, SaysId, SayLiterals, SpellsAdd, SpellsDelete, Spells}
 use Rattle.spec_lrat.specs.Laws.{SpellsWhatIsRead}
 use Rattle.spec_lrat.proofs.MergedLemmas.{one_clause}
 use Rattle.spec_lrat.proofs.WordLemmas.{zero-any, zero-said, number-bound, no-d, id-said, id-back, literal-said, literal-back, literal-no_zero}
@@ -55,7 +55,7 @@ numbers-back (w ∷ ws) zs e =
     let rest : map (λ w. number_in w greatest_id) ws ≡ map (λ z. Number z) b.rest = numbers-back ws b.rest b.others in
     subst (λ (xs : List ℤ). map (λ w. number_in w greatest_id) (w ∷ ws) ≡ map (λ z. Number z) xs) b.all (ap₂ (λ (x : NumberWord) (xs : List NumberWord). x ∷ xs) one rest)
 
--- ids with a 0 behind them
+-- ids with a 0 after them
 ids-closed : (ids : List ℕ) → AllByRecursion (λ id. 1 ≤ id) ids → are_closed (map pos ids ++ pos 0 ∷ []) ≡ true
 ids-closed [] h = refl
 ids-closed (zero ∷ ids) h = absurd (omega (arith, h.0))
@@ -83,7 +83,7 @@ closed-ids (pos (suc k) ∷ zs) e n =
     record { are = ap (λ (xs : List ℤ). pos (suc k) ∷ xs) rest.are; some = (omega arith, rest.some) }
 closed-ids (negsuc k ∷ zs) e n = absurd (cc)
 
--- the literals that words say up to a 0 are read, and the words behind are left
+-- the literals that words say up to a 0 are read, and the words after are left
 pub record LitsRead (ls : List ℕ) (words rest : List (List ℕ)) : Type 0 where
   pub lits : literals_of (before_end (words ++ rest)) ≡ Some ls
   pub behind : behind_end (words ++ rest) ≡ rest
@@ -93,29 +93,29 @@ lits-read [] [] rest h = let bad = h.0 in absurd (cc)
 lits-read [] (w ∷ v ∷ ws) rest h = let bad = h.0 in absurd (cc)
 lits-read [] (w ∷ []) rest h =
     let e = h.0 in
-    let says : number_in w 65536 ≡ Number (pos 0) = cc in
-    let end : is_end w ≡ true = zero-any w 65536 ∙ ap says_zero says in
+    let says : number_in w limits.variables ≡ Number (pos 0) = cc in
+    let end : is_end w ≡ true = zero-any w limits.variables ∙ ap says_zero says in
     record { lits = rw end refl; behind = rw end refl }
 lits-read (l ∷ ls) [] rest h = let bad = h.0 in absurd (cc)
 lits-read (l ∷ ls) (w ∷ ws) rest h =
     let e = h.0 in
-    let says : number_in w 65536 ≡ Number (number_of l) = cc in
-    let others : SayClosed 65536 ws (map number_of ls) = cc in
-    let lit : literal_said (number_in w 65536) ≡ Some l = literal-said (number_in w 65536) l says h.1.0.0 in
-    let end : is_end w ≡ false = zero-any w 65536 ∙ literal-no_zero (number_in w 65536) l lit in
+    let says : number_in w limits.variables ≡ Number (number_of l) = cc in
+    let others : SayClosed limits.variables ws (map number_of ls) = cc in
+    let lit : literal_said (number_in w limits.variables) ≡ Some l = literal-said (number_in w limits.variables) l says h.1.0.0 in
+    let end : is_end w ≡ false = zero-any w limits.variables ∙ literal-no_zero (number_in w limits.variables) l lit in
     let tail : LitsRead ls ws rest = lits-read ls ws rest (others, h.1.1) in
     record { lits = rw (end, lit, tail.lits) refl; behind = rw end tail.behind }
 
 -- and what is read are the literals that they say
-lits-back : (words : List (List ℕ)) (ls : List ℕ) → literals_of words ≡ Some ls → (map (λ w. number_in w 65536) words ≡ map (λ z. Number z) (map number_of ls)) × AllByRecursion IsLiteral ls
-lits-back [] ls e = let none : [] ≡ ls = cc in subst (λ (xs : List ℕ). (map (λ w. number_in w 65536) [] ≡ map (λ z. Number z) (map number_of xs)) × AllByRecursion IsLiteral xs) none (refl, tt)
+lits-back : (words : List (List ℕ)) (ls : List ℕ) → literals_of words ≡ Some ls → (map (λ w. number_in w limits.variables) words ≡ map (λ z. Number z) (map number_of ls)) × AllByRecursion IsServed ls
+lits-back [] ls e = let none : [] ≡ ls = cc in subst (λ (xs : List ℕ). (map (λ w. number_in w limits.variables) [] ≡ map (λ z. Number z) (map number_of xs)) × AllByRecursion IsServed xs) none (refl, tt)
 lits-back (w ∷ ws) ls e =
-    let b : Both (literal_said (number_in w 65536)) (literals_of ws) ls = both-read (literal_said (number_in w 65536)) (literals_of ws) ls e in
-    let one = literal-back (number_in w 65536) b.first (number-bound w 65536) b.one in
+    let b : Both (literal_said (number_in w limits.variables)) (literals_of ws) ls = both-read (literal_said (number_in w limits.variables)) (literals_of ws) ls e in
+    let one = literal-back (number_in w limits.variables) b.first (number-bound w limits.variables) b.one in
     let rest = lits-back ws b.rest b.others in
-    subst (λ (xs : List ℕ). (map (λ w. number_in w 65536) (w ∷ ws) ≡ map (λ z. Number z) (map number_of xs)) × AllByRecursion IsLiteral xs) b.all (ap₂ (λ (x : NumberWord) (xs : List NumberWord). x ∷ xs) one.0 rest.0, (one.1, rest.1))
+    subst (λ (xs : List ℕ). (map (λ w. number_in w limits.variables) (w ∷ ws) ≡ map (λ z. Number z) (map number_of xs)) × AllByRecursion IsServed xs) b.all (ap₂ (λ (x : NumberWord) (xs : List NumberWord). x ∷ xs) one.0 rest.0, (one.1, rest.1))
 
--- words that have a 0 are those before it, it, and those behind it
+-- words that have a 0 are those before it, it, and those after it
 pub record HasEnd (words : List (List ℕ)) : Type 0 where
   pub end : List ℕ
   pub is : is_end end ≡ true
@@ -149,12 +149,12 @@ first-not_d last id words [] rest [] says e = let bad = says.0 in absurd (cc)
 first-not_d last id words [] rest (l ∷ ls) says e = let bad = says.0 in absurd (cc)
 first-not_d last id words (w ∷ ws) rest [] says e =
     let h = says.0 in
-    let one : number_in w 65536 ≡ Number (pos 0) = cc in
-    ap (behind_id last id) e ∙ (rw (no-d w 65536 (pos 0) one) refl ∙ sym (ap (added last id) e))
+    let one : number_in w limits.variables ≡ Number (pos 0) = cc in
+    ap (behind_id last id) e ∙ (rw (no-d w limits.variables (pos 0) one) refl ∙ sym (ap (added last id) e))
 first-not_d last id words (w ∷ ws) rest (l ∷ ls) says e =
     let h = says.0 in
-    let one : number_in w 65536 ≡ Number (number_of l) = cc in
-    ap (behind_id last id) e ∙ (rw (no-d w 65536 (number_of l) one) refl ∙ sym (ap (added last id) e))
+    let one : number_in w limits.variables ≡ Number (number_of l) = cc in
+    ap (behind_id last id) e ∙ (rw (no-d w limits.variables (number_of l) one) refl ∙ sym (ap (added last id) e))
 
 add-read : (last : ℕ) (words : List (List ℕ)) (id : ℕ) (clause : Option (List ℕ)) (hints : List ℕ) → SpellsAdd last words id clause hints → reading_of last words ≡ Ok (Add id clause hints)
 add-read last words id clause hints s =
@@ -206,8 +206,8 @@ add-spelled last words w rest id line e says read row same = by_lits (literals_o
     by_form ls zs l q true false false f g h k =
         let are : AreIds zs = closed-ids zs f h in
         let end : HasEnd rest = has-end rest (some-behind (behind_end rest) zs q f) in
-        let lits : (map (λ x. number_in x 65536) (before_end rest) ≡ map (λ z. Number z) (map number_of ls)) × AllByRecursion IsLiteral ls = lits-back (before_end rest) ls l in
-        let zero_word : number_in end.end 65536 ≡ Number (pos 0) = zero-said (number_in end.end 65536) (sym (zero-any end.end 65536) ∙ end.is) in
+        let lits : (map (λ x. number_in x limits.variables) (before_end rest) ≡ map (λ z. Number z) (map number_of ls)) × AllByRecursion IsServed ls = lits-back (before_end rest) ls l in
+        let zero_word : number_in end.end limits.variables ≡ Number (pos 0) = zero-said (number_in end.end limits.variables) (sym (zero-any end.end limits.variables) ∙ end.is) in
         let gives : Add id (clause_of ls) (ids_of zs) ≡ line = cc in
         let spelled : SpellsAdd last (behind_l row) id (clause_of ls) (ids_of zs) = record {
           id_word = w;
@@ -217,7 +217,7 @@ add-spelled last words w rest id line e says read row same = by_lits (literals_o
           row = same ∙ (e ∙ ap (λ (xs : List (List ℕ)). w ∷ xs) (end.cut ∙ sym (append_assoc (before_end rest) (end.end ∷ []) (behind_end rest))));
           says_id = says;
           rising = leb-false id last g;
-          says_lits = (map-append (λ x. number_in x 65536) (before_end rest) (end.end ∷ []) ∙ (ap₂ (λ (xs ys : List NumberWord). xs ++ ys) lits.0 (ap (λ (x : NumberWord). x ∷ []) zero_word) ∙ sym (map-append (λ z. Number z) (map number_of ls) (pos 0 ∷ []))), lits.1);
+          says_lits = (map-append (λ x. number_in x limits.variables) (before_end rest) (end.end ∷ []) ∙ (ap₂ (λ (xs ys : List NumberWord). xs ++ ys) lits.0 (ap (λ (x : NumberWord). x ∷ []) zero_word) ∙ sym (map-append (λ z. Number z) (map number_of ls) (pos 0 ∷ []))), lits.1);
           makes = (one_clause ls (clause_of ls)).1 refl;
           says_hints = (numbers-back (behind_end rest) zs q ∙ ap (map (λ z. Number z)) are.are, are.some);
         } in

@@ -3,9 +3,10 @@ use Rattle.std.proofs.Common.{◌≡◌, ℕ, zero, suc, ◌+◌, ◌*◌, ◌/�
 use Rattle.std.specs.Prelude.{nat_abs, bytes_eq}
 use Rattle.std.proofs.lemmas.Slice.Eq.{bytes_eq-Decides}
 use Rattle.std.proofs.lemmas.Bool.{le-leb, lt-leb, leb-true, eq-eqb, ne_eqb, eqb-true, eqb-false, false_from_ne_true}
-use Rattle.mal_base.specs.Literals.{IsLiteral}
+use Rattle.mal_base.specs.Limits.{limits}
 use Rattle.spec_text.specs.Numbers.{NumberWord, number_of, number_in, magnitude_in, is_numeral, value_of, negated}
 use Rattle.spec_text.specs.Numbers.NumberWord.{NotANumber, TooLarge, Number}
+use Rattle.spec_lrat.specs.Grammar.{IsServed}
 use Rattle.spec_lrat.specs.Reading.{says_zero, is_end, literal_said, id_said}
 
 -- a word says 0 whatever the greatest magnitude is
@@ -111,17 +112,17 @@ number_of-odd k =
     let half : (2 * suc k + 1) / 2 ≡ suc k = omega arith in
     rw (odd, half) refl
 
-pub literal-back : (n : NumberWord) (l : ℕ) → ((z : ℤ) → n ≡ Number z → nat_abs z ≤ 65536) → literal_said n ≡ Some l → (n ≡ Number (number_of l)) × IsLiteral l
+pub literal-back : (n : NumberWord) (l : ℕ) → ((z : ℤ) → n ≡ Number z → nat_abs z ≤ limits.variables) → literal_said n ≡ Some l → (n ≡ Number (number_of l)) × IsServed l
 literal-back NotANumber l h e = absurd (cc)
 literal-back TooLarge l h e = absurd (cc)
 literal-back (Number (pos zero)) l h e = absurd (cc)
 literal-back (Number (pos (suc k))) l h e =
     let same : 2 * suc k ≡ l = cc in
-    let high : suc k ≤ 65536 = h (pos (suc k)) refl in
+    let high : suc k ≤ limits.variables = h (pos (suc k)) refl in
     (ap (λ (z : ℤ). Number z) (sym (number_of-even (suc k)) ∙ ap number_of same), (omega arith, omega arith))
 literal-back (Number (negsuc k)) l h e =
     let same : 2 * suc k + 1 ≡ l = cc in
-    let high : suc k ≤ 65536 = h (negsuc k) refl in
+    let high : suc k ≤ limits.variables = h (negsuc k) refl in
     (ap (λ (z : ℤ). Number z) (sym (number_of-odd k) ∙ ap number_of same), (omega arith, omega arith))
 
 -- a word that says a literal does not say 0

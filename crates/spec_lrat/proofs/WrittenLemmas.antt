@@ -4,7 +4,7 @@ use Rattle.std.specs.Prelude.{nat_abs, bytes_eq}
 use Rattle.std.specs.List.{AllByRecursion}
 use Rattle.std.proofs.lemmas.Slice.Eq.{bytes_eq-Decides}
 use Rattle.std.proofs.lemmas.Bool.{false_from_ne_true}
-use Rattle.mal_base.specs.Literals.{IsLiteral}
+use Rattle.mal_base.specs.Limits.{limits}
 use Rattle.mal_base.proofs.Sorting.{Contains-head, Contains-later}
 use Rattle.spec_text.specs.Lines.{IsClean, AreClean, IsRow}
 use Rattle.spec_text.specs.Numbers.{NumberWord, number_of, number_in, decimal_word}
@@ -14,7 +14,7 @@ use Rattle.spec_logic.specs.Refutation.{ProofLine}
 use Rattle.spec_logic.specs.Refutation.ProofLine.{Add, Delete}
 use Rattle.spec_dimacs.specs.Merged.{IsClauseOf}
 use Rattle.spec_lrat.specs.Reading.{greatest_id, behind_l}
-use Rattle.spec_lrat.specs.Grammar.{SayIds, SayLiterals, Spells}
+use Rattle.spec_lrat.specs.Grammar.{IsServed, SayIds, SayLiterals, Spells}
 use Rattle.spec_lrat.specs.Written.{written_lits, words_of_ids, words_of_lits, row_of}
 use Rattle.spec_lrat.specs.Laws.{IsId, IsClause, IsLine, WrittenIsRead}
 use Rattle.spec_lrat.proofs.NumeralLemmas.{decimal-again}
@@ -37,26 +37,26 @@ ids-say (id ∷ ids) h =
     (ap₂ (λ (x : NumberWord) (xs : List NumberWord). x ∷ xs) (decimal-again id greatest_id h.0.1 (omega arith)) rest.0, (h.0.0, rest.1))
 
 -- written literals say the literals
-literal-magnitude : (l : ℕ) → IsLiteral l → nat_abs (number_of l) ≤ 65536
+literal-magnitude : (l : ℕ) → IsServed l → nat_abs (number_of l) ≤ limits.variables
 literal-magnitude l h = by_sign (eqb (l % 2) 0) (l / 2) (omega (arith, h.1))
   where
-    by_sign : (b : Bool) (v : ℕ) → v ≤ 65536 → nat_abs (cond b (pos v) (neg_ℤ (pos v))) ≤ 65536
+    by_sign : (b : Bool) (v : ℕ) → v ≤ limits.variables → nat_abs (cond b (pos v) (neg_ℤ (pos v))) ≤ limits.variables
     by_sign true v k = k
     by_sign false zero k = k
     by_sign false (suc v) k = k
 
-lits-say : (lits : List ℕ) → AllByRecursion IsLiteral lits → SayLiterals (words_of_lits lits) lits
+lits-say : (lits : List ℕ) → AllByRecursion IsServed lits → SayLiterals (words_of_lits lits) lits
 lits-say [] h = (refl, tt)
 lits-say (l ∷ ls) h =
     let rest : SayLiterals (words_of_lits ls) ls = lits-say ls h.1 in
-    (ap₂ (λ (x : NumberWord) (xs : List NumberWord). x ∷ xs) (numbers_read_again (number_of l) 65536 (literal-magnitude l h.0) (omega arith)) rest.0, (h.0, rest.1))
+    (ap₂ (λ (x : NumberWord) (xs : List NumberWord). x ∷ xs) (numbers_read_again (number_of l) limits.variables (literal-magnitude l h.0) (omega arith)) rest.0, (h.0, rest.1))
 
 -- the written literals make the clause
 lits-make : (c : Option (List ℕ)) → IsClause c → IsClauseOf (written_lits c) c
 lits-make None h = (1, Contains-head 2 (3 ∷ []), Contains-later 2 (3 ∷ []) 3 (Contains-head 3 []))
 lits-make (Some lits) h = (h.0, record { there = λ x k. k; back = λ x k. k })
 
-lits-are : (c : Option (List ℕ)) → IsClause c → AllByRecursion IsLiteral (written_lits c)
+lits-are : (c : Option (List ℕ)) → IsClause c → AllByRecursion IsServed (written_lits c)
 lits-are None h = ((omega arith, omega arith), ((omega arith, omega arith), tt))
 lits-are (Some lits) h = h.1
 

@@ -4,7 +4,7 @@ use Rattle.spec_logic.specs.Refutation.ProofLine.{Add, Delete}
 use Rattle.spec_lrat.specs.Reading.{reading}
 use Rattle.spec_lrat.specs.Reading.Fault.{BadNumber, MissingZero, IdNotRising, NegativeHint}
 
--- what lines are read as behind four original clauses
+-- what lines are read as after four original clauses
 pub record HasLines : Type 0 where
   pub unit : reading 4 (words_of (codes "5 1 0 1 2 0")) ≡ Ok (Add 5 (Some (2 ∷ [])) (1 ∷ 2 ∷ []))
   pub behind_l : reading 4 (words_of (codes "l 5 1 0 1 2 0\r")) ≡ Ok (Add 5 (Some (2 ∷ [])) (1 ∷ 2 ∷ []))

@@ -1,7 +1,7 @@
 -- The grammar of proof lines: which line a row of words spells.
-use Rattle.std.specs.Prelude.{◌≡◌, ℕ, ◌<◌, ◌≤◌, List, [], ◌∷◌, ◌++◌, map, codes, ℤ, pos, Option}
+use Rattle.std.specs.Prelude.{◌≡◌, ℕ, ◌+◌, ◌*◌, ◌<◌, ◌≤◌, List, [], ◌∷◌, ◌++◌, map, codes, ℤ, pos, Option}
 use Rattle.std.specs.List.{AllByRecursion}
-use Rattle.mal_base.specs.Literals.{IsLiteral}
+use Rattle.mal_base.specs.Limits.{limits}
 use Rattle.spec_text.specs.Numbers.{number_in, number_of}
 use Rattle.spec_text.specs.Numbers.NumberWord.{Number}
 use Rattle.spec_logic.specs.Refutation.{ProofLine}
@@ -21,9 +21,13 @@ SaysId word id = (number_in word greatest_id ≡ Number (pos id)) × (1 ≤ id)
 abbrev pub SayIds : List (List ℕ) → List ℕ → Type 0
 SayIds words ids = SayClosed greatest_id words (map pos ids) × AllByRecursion (λ id. 1 ≤ id) ids
 
+-- a code is that of a literal of a variable that is served
+abbrev pub IsServed : ℕ → Type 0
+IsServed code = (2 ≤ code) × (code < 2 * limits.variables + 2)
+
 -- words say these literals and then a 0
 abbrev pub SayLiterals : List (List ℕ) → List ℕ → Type 0
-SayLiterals words lits = SayClosed 65536 words (map number_of lits) × AllByRecursion IsLiteral lits
+SayLiterals words lits = SayClosed limits.variables words (map number_of lits) × AllByRecursion IsServed lits
 
 -- a line that adds: its id, which is above the last one, the literals of its clause up to a 0, and its hints up to a 0
 pub record SpellsAdd (last : ℕ) (words : List (List ℕ)) (id : ℕ) (clause : Option (List ℕ)) (hints : List ℕ) : Type 0 where
@@ -47,7 +51,7 @@ pub record SpellsDelete (words : List (List ℕ)) (ids : List ℕ) : Type 0 wher
   pub says_id : SaysId id_word id
   pub says_ids : SayIds id_words ids
 
--- the words behind a leading `l` are those of the line; `last` is the greatest id so far
+-- the words after a leading `l` are those of the line; `last` is the greatest id so far
 abbrev pub Spells : ℕ → List (List ℕ) → ProofLine → Type 0
 Spells last row (Add id clause hints) = SpellsAdd last (behind_l row) id clause hints
 Spells last row (Delete ids) = SpellsDelete (behind_l row) ids

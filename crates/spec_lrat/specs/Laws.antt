@@ -1,14 +1,13 @@
 -- What holds of proof lines, in the form in which the law functions state it.
 use Rattle.std.specs.Prelude.{◌≡◌, ◌↔◌, ℕ, ◌<◌, ◌≤◌, true, List, Option, Some, None, Ok}
 use Rattle.std.specs.List.{AllByRecursion}
-use Rattle.mal_base.specs.Literals.{IsLiteral}
 use Rattle.mal_base.specs.Clauses.{rises}
 use Rattle.spec_text.specs.Lines.{IsRow}
 use Rattle.spec_logic.specs.Refutation.{ProofLine}
 use Rattle.spec_logic.specs.Refutation.ProofLine.{Add, Delete}
 use Rattle.spec_dimacs.specs.Merged.{IsClauseOf, clause_of}
 use Rattle.spec_lrat.specs.Reading.{greatest_id, reading}
-use Rattle.spec_lrat.specs.Grammar.{Spells}
+use Rattle.spec_lrat.specs.Grammar.{IsServed, Spells}
 use Rattle.spec_lrat.specs.Written.{row_of}
 
 -- words spell the line that they are read as, and no other; where reading finds a fault they spell none
@@ -26,16 +25,16 @@ IsId id = (1 ≤ id) × (id ≤ greatest_id)
 -- a clause that can be written
 abbrev pub IsClause : Option (List ℕ) → Type 0
 IsClause None = Unit {0}
-IsClause (Some lits) = (rises lits ≡ true) × AllByRecursion IsLiteral lits
+IsClause (Some lits) = (rises lits ≡ true) × AllByRecursion IsServed lits
 
--- a line that adds and can be written, behind the id `last`
+-- a line that adds and can be written, after the id `last`
 pub record IsAddition (last id : ℕ) (clause : Option (List ℕ)) (hints : List ℕ) : Type 0 where
   pub rising : last < id
   pub is_id : IsId id
   pub is_clause : IsClause clause
   pub are_ids : AllByRecursion IsId hints
 
--- a line that can be written, behind the id `last`
+-- a line that can be written, after the id `last`
 abbrev pub IsLine : ℕ → ProofLine → Type 0
 IsLine last (Add id clause hints) = IsAddition last id clause hints
 IsLine last (Delete ids) = AllByRecursion IsId ids

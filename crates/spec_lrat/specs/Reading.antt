@@ -1,6 +1,7 @@
 -- Reading the words of a proof line: the line, or its first fault.
 use Rattle.std.specs.Prelude.{ℕ, zero, suc, ◌^◌, Bool, true, false, List, [], ◌∷◌, length, ◌==◌, codes, bytes_eq, nat_le, nat_abs, if◌then◌else◌, ℤ, pos, negsuc, Option, Some, None, Result, Ok, Err}
 use Rattle.std.specs.List.{list_any}
+use Rattle.mal_base.specs.Limits.{limits}
 use Rattle.mal_base.specs.Literals.{literal}
 use Rattle.spec_text.specs.Numbers.{NumberWord, number_in}
 use Rattle.spec_text.specs.Numbers.NumberWord.{NotANumber, TooLarge, Number}
@@ -15,11 +16,11 @@ pub data Fault : Type 0 where
   IdNotRising : (last : ℕ) → (id : ℕ) → Fault
   NegativeHint : Fault
 
--- variables are at most 65,536, ids and hints at most 2^62
+-- variables are those that are served, ids and hints at most 2^62
 abbrev pub greatest_id : ℕ
 greatest_id = 2 ^ 62
 
--- the words behind a leading word `l`
+-- the words after a leading word `l`
 abbrev pub behind_l : List (List ℕ) → List (List ℕ)
 behind_l [] = []
 behind_l (word ∷ words) = if bytes_eq word (codes "l") then words else word ∷ words
@@ -42,7 +43,7 @@ says_zero TooLarge = false
 abbrev pub is_end : List ℕ → Bool
 is_end word = says_zero (number_in word 0)
 
--- the words before the first 0, and those behind it
+-- the words before the first 0, and those after it
 abbrev pub before_end : List (List ℕ) → List (List ℕ)
 before_end [] = []
 before_end (word ∷ words) = if is_end word then [] else word ∷ before_end words
@@ -51,7 +52,7 @@ abbrev pub behind_end : List (List ℕ) → List (List ℕ)
 behind_end [] = []
 behind_end (word ∷ words) = if is_end word then words else behind_end words
 
--- what one word says before what the words behind it say, none where one of both is none
+-- what one word says before what the words after it say, none where one of both is none
 abbrev pub before_all : {A : Type 0} → Option A → Option (List A) → Option (List A)
 before_all (Some x) (Some xs) = Some (x ∷ xs)
 before_all (Some x) None = None
@@ -77,7 +78,7 @@ literal_said TooLarge = None
 
 abbrev pub literals_of : List (List ℕ) → Option (List ℕ)
 literals_of [] = Some []
-literals_of (word ∷ words) = before_all (literal_said (number_in word 65536)) (literals_of words)
+literals_of (word ∷ words) = before_all (literal_said (number_in word limits.variables)) (literals_of words)
 
 -- the id that a word says, which is at least 1
 abbrev pub id_said : NumberWord → Option ℕ
@@ -116,7 +117,7 @@ adding last id None hints = Err BadNumber
 adding last id (Some lits) None = Err BadNumber
 adding last id (Some lits) (Some hints) = if are_closed hints then adding_closed last id lits hints else Err MissingZero
 
--- the words behind the id: `d` and ids, or literals and hints
+-- the words after the id: `d` and ids, or literals and hints
 abbrev pub added : ℕ → ℕ → List (List ℕ) → Result ProofLine Fault
 added last id words = adding last id (literals_of (before_end words)) (numbers_of (behind_end words))
 
@@ -124,7 +125,7 @@ abbrev pub behind_id : ℕ → ℕ → List (List ℕ) → Result ProofLine Faul
 behind_id last id [] = added last id []
 behind_id last id (word ∷ words) = if bytes_eq word (codes "d") then deleting (numbers_of words) else added last id (word ∷ words)
 
--- the line behind a word that says its id
+-- the line after a word that says its id
 abbrev pub with_id : ℕ → Option ℕ → List (List ℕ) → Result ProofLine Fault
 with_id last None words = Err BadNumber
 with_id last (Some id) words = behind_id last id words
@@ -133,6 +134,6 @@ abbrev pub reading_of : ℕ → List (List ℕ) → Result ProofLine Fault
 reading_of last [] = Err MissingZero
 reading_of last (word ∷ words) = with_id last (id_said (number_in word greatest_id)) words
 
--- the line that words spell behind the id `last`, or its first fault
+-- the line that words spell after the id `last`, or its first fault
 abbrev pub reading : ℕ → List (List ℕ) → Result ProofLine Fault
 reading last row = reading_of last (behind_l row)

@@ -80,7 +80,7 @@ row-says e v n i c l h s j low high few =
     by_value true q j low high few start carry count = kept j low high few carry
     by_value false q j low high few start carry count = more j low high few q start count
 
--- the row behind so many literals more has counted them
+-- the row after so many literals more has counted them
 pub rows-say : (e : List Bool) (v n i c m : ℕ) (ls : List ℕ) → satisfies e (rows v n i ls) ≡ true → AtLeast e v n i c → m ≤ length ls → AtLeast e v n (i + m) (total e c (take m ls))
 rows-say e v n i c zero ls h s few = let same : i ≡ i + zero = omega arith in subst (λ (k : ℕ). AtLeast e v n k c) same s
 rows-say e v n i c (suc m) [] h s few = absurd (omega arith)

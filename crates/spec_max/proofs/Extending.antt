@@ -19,7 +19,7 @@ row-length : (j k c : ℕ) → length (row_from j k c) ≡ k
 row-length j zero c = refl
 row-length j (suc k) c = ap (λ (n : ℕ). suc n) (row-length (suc j) k c)
 
--- the values of the rows of literals, behind a count
+-- the values of the rows of literals, after a count
 abbrev pub built : ℕ → ℕ → List Bool → List ℕ → List Bool
 built n c a [] = []
 built n c a (l ∷ ls) = row_from 1 n (after a c l) ++ built n (after a c l) a ls
@@ -54,7 +54,7 @@ says-here front rest v n i c long (suc j) low high =
     ∙ row-at 1 n c j rest (omega arith)
     ∙ ap (λ (m : ℕ). nat_le m c) (add-one j)
 
--- a row stands n variables behind the one before
+-- a row stands n variables after the one before
 pub row-behind : (v n i : ℕ) → 1 ≤ i → v + (i - 1) * n + n ≡ v + (suc i - 1) * n
 row-behind v n zero low = absurd (omega arith)
 row-behind v n (suc k) low =
@@ -77,7 +77,7 @@ counted-so e a front v n i c (l ∷ ls) is long low same =
       subst (λ (d : ℕ). Count e v n (suc i) d ls) step (counted-so e a next v n (suc i) (after a c l) ls there more (omega arith) same.1),
     )
 
--- the row behind so many literals more says the count behind them
+-- the row after so many literals more says the count after them
 count-at : (e : List Bool) (v n i c m : ℕ) (ls : List ℕ) → Count e v n i c ls → m ≤ length ls → Says e v n (i + m) (total e c (take m ls))
 count-at e v n i c zero ls h few = let same : i ≡ i + zero = omega arith in subst (λ (k : ℕ). Says e v n k c) same (count-first e v n i c ls h)
 count-at e v n i c (suc m) [] h few = absurd (omega arith)
@@ -91,7 +91,7 @@ value-kept a more v low high = get_or_append_left a more false (v - 1) (omega ar
 literal-kept : (a more : List Bool) (l : ℕ) → 1 ≤ l / 2 → l / 2 ≤ length a → is_true_in (a ++ more) l ≡ is_true_in a l
 literal-kept a more l low high = ap (λ (b : Bool). cond (l % 2 == 0) b (not b)) (value-kept a more (l / 2) low high)
 
--- what is put behind an assignment leaves its literals
+-- what is put after an assignment leaves its literals
 pub same-kept : (a more : List Bool) (ls : List ℕ) → is_within (length a) ls ≡ true → Same (a ++ more) a ls
 same-kept a more [] h = tt
 same-kept a more (l ∷ ls) h =

@@ -9,7 +9,7 @@ use Rattle.spec_max.specs.Counter.{counted, starts, carries, adds, row, rows}
 use Rattle.spec_max.specs.Laws.{CounterIsInForm, CostBelowIsWithin}
 use Rattle.spec_max.proofs.Extending.{row-behind}
 
--- the variables of n rows stand behind the others, n from row to row
+-- the variables of n rows stand after the others, n from row to row
 counted-high : (v n i j : ℕ) → 1 ≤ i → i ≤ n → j ≤ n → counted v n i j ≤ v + n * n
 counted-high v n i j low high few =
     let all : i * n ≤ n * n = mul-le-mul_right n high in

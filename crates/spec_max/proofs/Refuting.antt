@@ -59,7 +59,7 @@ fit-satisfies v a (c ∷ cs) h =
     by_clause None k = refl
     by_clause (Some lits) k = same-any (fit v a) a lits (fit-same v a lits (clause-within v lits k))
 
--- what is put behind an assignment of the variables leaves clauses of them
+-- what is put after an assignment of the variables leaves clauses of them
 pub more-satisfies : (a more : List Bool) (cs : List (Option (List ℕ))) → list_all (is_clause_of (length a)) cs ≡ true → satisfies (a ++ more) cs ≡ satisfies a cs
 more-satisfies a more [] h = refl
 more-satisfies a more (c ∷ cs) h =
@@ -73,7 +73,7 @@ more-satisfies a more (c ∷ cs) h =
 pub formula-clauses : (f : Formulated) → is_formula f ≡ true → list_all (is_clause_of f.variables) f.clauses ≡ true
 formula-clauses f h = (and_parts (is_within_limits f.variables f.clauses) (list_all (is_clause_of f.variables) f.clauses) h).1
 
--- an assignment that satisfies the formula, with values for the counter behind
+-- an assignment that satisfies the formula, with values for the counter after
 pub record Extended (f : Formulated) (softs : List ℕ) (assignment : List Bool) : Type 0 where
   pub whole : List Bool
   pub satisfied : satisfies whole (f.clauses ++ counter f.variables softs) ≡ true

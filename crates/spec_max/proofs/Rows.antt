@@ -69,7 +69,7 @@ row-true e v n i c l s t some =
     (carries-true e v n i c (after e c l) 1 n s t (grows (is_true_in e l) c) (omega arith) (omega arith))
     (adds-true e v n i c l 1 (n - 1) s t (omega arith) (omega arith)))
 
--- row i says this count, and the rows behind it say those after one literal more each
+-- row i says this count, and the rows after it say those after one literal more each
 abbrev pub Count : List Bool → ℕ → ℕ → ℕ → ℕ → List ℕ → Type 0
 Count e v n i c [] = Says e v n i c
 Count e v n i c (l ∷ ls) = Says e v n i c × Count e v n (suc i) (after e c l) ls

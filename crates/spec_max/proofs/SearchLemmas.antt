@@ -21,7 +21,7 @@ use Rattle.spec_max.proofs.SolutionLemmas.{solution-few, opening-posted, cheaper
 pub search-goes-on : SearchGoesOn
 search-goes-on w = course-goes-on (step w)
 
--- what holds of what follows behind so many questions
+-- what holds of what follows after so many questions
 abbrev pub Holds : Instance → ℕ → Next (Option Solution) Optimum → Type 0
 Holds w n (Asks best r) = IsAsked w n best r
 Holds w n (Ends optimum) = IsRight w optimum × (n ≤ length w.softs + 1)
@@ -121,7 +121,7 @@ state-is-last w s r (x ∷ xs) t q l = by_told x.told l.1 (λ a b k. state-is-la
     by_told (AllSpent n) k rest = absurd (ended (Unknown s (Spent n)) xs k)
     by_told AllStarved k rest = absurd (ended (Unknown s Starved) xs k)
 
--- a course that ends behind a question was at that question before
+-- a course that ends after a question was at that question before
 pub record WasAsked (w : Instance) (now : Next (Option Solution) Optimum) (asked : List Asked) (x : Asked) (optimum : Optimum) : Type 0 where
   pub best : Option Solution
   pub revision : Posted

@@ -4,6 +4,7 @@ use Rattle.std.proofs.lemmas.Bool.{and_parts, and_from, leb-true, le-leb}
 use Rattle.std.proofs.lemmas.List.{length-take-le}
 use Rattle.std.proofs.lemmas.List.Folds.{list_all-append}
 use Rattle.std.proofs.lemmas.List.Sums.{count_by-le-length}
+use Rattle.mal_base.specs.Limits.{limits}
 use Rattle.mal_base.specs.Clauses.{rises}
 use Rattle.mal_base.specs.Formulas.{is_within, is_clause_of, is_within_limits, literals_of}
 use Rattle.mal_revision.specs.Posted.{is_posted}
@@ -59,10 +60,10 @@ opening-posted w s =
 -- and so may a question for less
 pub cheaper-posted : (w : Instance) (c : ℕ) → IsServed w → 1 ≤ c → c ≤ length w.softs → is_posted (cheaper w c) ≡ true
 cheaper-posted w c s low high =
-    let two = and_parts (nat_le (variables_in w) 65536 && nat_le (length (clauses_in w)) 1048576) (nat_le (literals_of (clauses_in w)) 16777216) s.limited in
-    let one = and_parts (nat_le (variables_in w) 65536) (nat_le (length (clauses_in w)) 1048576) two.0 in
+    let two = and_parts (nat_le (variables_in w) limits.variables && nat_le (length (clauses_in w)) limits.clauses) (nat_le (literals_of (clauses_in w)) limits.literals) s.limited in
+    let one = and_parts (nat_le (variables_in w) limits.variables) (nat_le (length (clauses_in w)) limits.clauses) two.0 in
     and_from (is_within_limits (variables_in w) [] && true) (is_within (variables_in w) (costs_less w c ∷ []))
-    (and_from (is_within_limits (variables_in w) []) true (and_from (nat_le (variables_in w) 65536 && true) true (and_from (nat_le (variables_in w) 65536) true one.0 refl) refl) refl)
+    (and_from (is_within_limits (variables_in w) []) true (and_from (nat_le (variables_in w) limits.variables && true) true (and_from (nat_le (variables_in w) limits.variables) true one.0 refl) refl) refl)
     (cost_below_within w.formula.variables w.softs c low high)
 
 -- the first values of a model of formula and counter are a solution, which costs what the model does

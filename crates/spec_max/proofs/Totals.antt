@@ -5,7 +5,7 @@ use Rattle.spec_logic.specs.Logic.{is_true_in}
 use Rattle.spec_max.specs.Cost.{cost}
 use Rattle.spec_max.proofs.Rows.{after}
 
--- the count behind literals, from a count on
+-- the count after literals, from a count on
 abbrev pub total : List Bool → ℕ → List ℕ → ℕ
 total e c [] = c
 total e c (l ∷ ls) = total e (after e c l) ls

@@ -3,7 +3,7 @@
 use Rattle.std.specs.Prelude.{ℕ, zero, suc, ◌+◌, ◌-◌, ◌*◌, true, false, List, [], ◌∷◌, ◌++◌, length, Option, Some}
 use Rattle.mal_base.specs.Literals.{literal}
 
--- the variable s(i, j) of a counter of n literals behind these variables: at least j of the first i literals are false
+-- the variable s(i, j) of a counter of n literals after these variables: at least j of the first i literals are false
 abbrev pub counted : ℕ → ℕ → ℕ → ℕ → ℕ
 counted variables n i j = variables + (i - 1) * n + j
 
@@ -25,11 +25,11 @@ adds variables n i l j (suc k) =
     Some (l ∷ literal (counted variables n i j) false ∷ literal (counted variables n (suc i) (suc j)) true ∷ [])
     ∷ adds variables n i l (suc j) k
 
--- row i + 1, behind row i
+-- row i + 1, after row i
 abbrev pub row : ℕ → ℕ → ℕ → ℕ → List (Option (List ℕ))
 row variables n i l = starts variables n (suc i) l ∷ (carries variables n i 1 n ++ adds variables n i l 1 (n - 1))
 
--- the rows of literals, the first of them behind row i
+-- the rows of literals, the first of them after row i
 abbrev pub rows : ℕ → ℕ → ℕ → List ℕ → List (Option (List ℕ))
 rows variables n i [] = []
 rows variables n i (l ∷ ls) = row variables n i l ++ rows variables n (suc i) ls

@@ -7,7 +7,7 @@ use Rattle.spec_logic.specs.Refutation.{ProofLine, IsRefutation}
 use Rattle.spec_max.specs.Counter.{counted, counter, variables_with}
 use Rattle.spec_max.specs.Cost.{cost, cost_below}
 
--- the variables of a counter have these values behind an assignment: each says how many of the first literals are
+-- the variables of a counter have these values after an assignment: each says how many of the first literals are
 -- false, and so the counter is satisfied
 pub record Counts (variables : ℕ) (softs : List ℕ) (assignment : List Bool) (more : List Bool) : Type 0 where
   pub long : length more ≡ length softs * length softs

@@ -49,7 +49,7 @@ pub data Optimum : Type 0 where
 abbrev pub solution_in : Instance → List Bool → Solution
 solution_in w model = record { model = take w.formula.variables model; cost = cost w.softs (take w.formula.variables model) }
 
--- behind a solution: one of cost 0 is the best, and of any other it is asked for less
+-- after a solution: one of cost 0 is the best, and of any other it is asked for less
 abbrev pub improved : Instance → Solution → Next (Option Solution) Optimum
 improved w found = if found.cost == 0 then Ends (Best found []) else Asks (Some found) (cheaper w found.cost)
 

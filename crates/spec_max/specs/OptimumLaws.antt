@@ -12,7 +12,7 @@ use Rattle.spec_max.specs.Right.{IsServed, IsSolution, IsRight}
 abbrev pub SearchGoesOn : Type 0
 SearchGoesOn = (w : Instance) → CourseGoesOn (step w)
 
--- behind so many questions it is asked for less than the best solution so far, whose cost has fallen with each of them
+-- after so many questions it is asked for less than the best solution so far, whose cost has fallen with each of them
 -- but the first
 pub record AsksForLess (w : Instance) (n : ℕ) (best : Solution) (r : Posted) : Type 0 where
   pub solution : IsSolution w best
@@ -20,7 +20,7 @@ pub record AsksForLess (w : Instance) (n : ℕ) (best : Solution) (r : Posted) :
   pub fallen : n + best.cost ≤ length w.softs + 1
   pub less : r ≡ cheaper w best.cost
 
--- what a search asks behind so many questions: first formula and counter, and then for less
+-- what a search asks after so many questions: first formula and counter, and then for less
 abbrev pub IsAsked : Instance → ℕ → Option Solution → Posted → Type 0
 IsAsked w n None r = (n ≡ 0) × (r ≡ opening w)
 IsAsked w n (Some best) r = AsksForLess w n best r
@@ -37,7 +37,7 @@ SearchAsks =
     → AreSupported (variables_in w) (clauses_in w) asked → Leads (step w) (first w) asked (Asks best r)
     → IsQuestion w (length asked) best r
 
--- where what is told has its evidence, a search ends with what is right, behind one question more than there are soft
+-- where what is told has its evidence, a search ends with what is right, after one question more than there are soft
 -- literals at most
 abbrev pub SearchIsRight : Type 0
 SearchIsRight =

@@ -1,5 +1,6 @@
 -- What is right of an instance and of its optimum.
 use Rattle.std.specs.Prelude.{◌≡◌, ◌≤◌, true, Bool, List, [], ◌∷◌, length, Option, Some, None}
+use Rattle.mal_base.specs.Limits.{limits}
 use Rattle.mal_base.specs.Formulas.{is_formula, is_within, is_within_limits}
 use Rattle.mal_base.specs.NumberedClause.{Line}
 use Rattle.spec_logic.specs.Logic.{satisfies, IsUnsatisfiable}
@@ -13,7 +14,7 @@ use Rattle.spec_max.specs.Optimum.{Instance, Solution, Optimum, Best, NoModel, U
 pub record IsServed (w : Instance) : Type 0 where
   pub formed : is_formula w.formula ≡ true
   pub within : is_within w.formula.variables w.softs ≡ true
-  pub few : length w.softs ≤ 128
+  pub few : length w.softs ≤ limits.softs
   pub limited : is_within_limits (variables_in w) (clauses_in w) ≡ true
 
 -- a value for each variable of the formula, which they satisfy, with their cost

@@ -51,7 +51,7 @@ pub fn search_goes_on()
     ensures asks { SearchAsks }
 {}
 
-/// Where what is told has its evidence, a search ends with what is right, behind one question more than there are soft
+/// Where what is told has its evidence, a search ends with what is right, after one question more than there are soft
 /// literals at most; and unknown exactly where the last that was told is.
 pub fn search_is_right()
     ensures right { SearchIsRight }

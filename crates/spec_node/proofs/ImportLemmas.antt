@@ -10,6 +10,8 @@ use Rattle.spec_node.specs.Value.{level_of}
 use Rattle.spec_node.specs.Cut.{kept, removed}
 use Rattle.spec_node.specs.Adding.{with_clause}
 use Rattle.spec_node.specs.Load.{is_derived}
+use Rattle.mal_base.specs.declared.profile.Profile.{Profile}
+use Rattle.mal_base.specs.Profiles.{policy}
 use Rattle.spec_node.specs.Import.{has_lits, taken, with_clauses, serial_above, with_new, is_left_off, imported}
 use Rattle.spec_node.specs.Sound.{EachAfter, AreLiteralsOf, IsPlaced, IsLevelled, IsClosed, IsForced, IsChosen, IsPassed, NumbersRise, serial_of, IsRanged, IsConsistent, IsSound}
 use Rattle.spec_node.specs.Laws.{originals, HaveOwnNumbers, MayImport, ImportHolds, ImportMayLeave}
@@ -213,16 +215,16 @@ import-holds = record {
   kept = λ exported n c h. by-taking (λ m. Contains m.clauses c) exported n h (contains-with_clauses (taken exported n.clauses) n.clauses c h);
 }
 
--- an import is left off exactly under profile 2 where no clause is taken
-left-off : (profile : ℕ) (new : List NumberedClause) → profile ≡ 2 → new ≡ [] → is_left_off profile new ≡ true
+-- an import is left off exactly where the profile skips empty ones and no clause is taken
+left-off : (profile : Profile) (new : List NumberedClause) → (policy profile).skips_empty_imports ≡ true → new ≡ [] → is_left_off profile new ≡ true
 left-off profile new p e = rw (p, e) refl
 
-takes-some : (profile : ℕ) (new : List NumberedClause) → new ≢ [] → is_left_off profile new ≡ false
+takes-some : (profile : Profile) (new : List NumberedClause) → new ≢ [] → is_left_off profile new ≡ false
 takes-some profile [] h = absurd (h refl)
-takes-some profile (c ∷ new) h = and_right (profile == 2) (length (c ∷ new) == 0) (ne_eqb (length (c ∷ new)) 0 (λ q. absurd (omega arith)))
+takes-some profile (c ∷ new) h = and_right (policy profile).skips_empty_imports (length (c ∷ new) == 0) (ne_eqb (length (c ∷ new)) 0 (λ q. absurd (omega arith)))
 
-other-profile : (profile : ℕ) (new : List NumberedClause) → profile ≢ 2 → is_left_off profile new ≡ false
-other-profile profile new h = ap (λ (b : Bool). b && (length new == 0)) (ne_eqb profile 2 h)
+other-profile : (profile : Profile) (new : List NumberedClause) → (policy profile).skips_empty_imports ≡ false → is_left_off profile new ≡ false
+other-profile profile new h = ap (λ (b : Bool). b && (length new == 0)) h
 
 pub import-may_leave : ImportMayLeave
 import-may_leave = record {

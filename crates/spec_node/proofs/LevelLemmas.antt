@@ -13,7 +13,7 @@ use Rattle.spec_node.specs.Sound.{EachAfter, IsLevelled, own_level, level_in, gr
 use Rattle.spec_node.proofs.CutLemmas.{level_of-push}
 use Rattle.spec_node.proofs.FindLemmas.{find-All}
 
--- a property of each entry of the part behind a front
+-- a property of each entry of the part after a front
 pub each-behind : (P : List TrailEntry → TrailEntry → Type 0) (xs ys before : List TrailEntry) → EachAfter P before (xs ++ ys) → EachAfter P (before ++ xs) ys
 each-behind P [] ys before h = subst (λ (t : List TrailEntry). EachAfter P t ys) (sym (append-nil before)) h
 each-behind P (x ∷ xs) ys before h = subst (λ (t : List TrailEntry). EachAfter P t ys) (append_assoc before (x ∷ []) xs) (each-behind P xs ys (before ++ x ∷ []) h.1)

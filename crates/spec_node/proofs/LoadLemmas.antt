@@ -15,6 +15,8 @@ use Rattle.mal_base.specs.Formulas.{is_within, is_clause_of, is_within_limits}
 use Rattle.mal_revision.specs.Posted.{Posted, is_posted}
 use Rattle.spec_logic.specs.Logic.{satisfies, satisfies_clause}
 use Rattle.mal_base.specs.NumberedClause.{NumberedClause}
+use Rattle.mal_base.specs.Limits.{limits}
+use Rattle.mal_base.specs.declared.profile.Profile.{Profile}
 use Rattle.spec_node.specs.State.{Node, fresh_with}
 use Rattle.spec_node.specs.Cut.{kept, removed}
 use Rattle.spec_node.specs.Load.{counted, rotated, new_order, numbered, is_derived, with_originals, added, loaded}
@@ -87,7 +89,7 @@ kept-forced P f (e ∷ es) before h = subst (λ (t : List TrailEntry). EachAfter
 
 -- the parts of what is posted
 pub record IsPostedOf (r : Posted) : Type 0 where
-  pub variables : r.variables ≤ 65536
+  pub variables : r.variables ≤ limits.variables
   pub clauses : list_all (is_clause_of r.variables) r.clauses ≡ true
   pub assumptions : AreLiteralsOf r.variables r.assumptions
   pub literals : list_all (λ c. option_map_or has_variables c true) r.clauses ≡ true
@@ -100,8 +102,8 @@ posted-parts r p h =
     let d = and_parts (list_all (λ c. option_map_or has_variables c true) r.clauses) (has_variables r.assumptions) h in
     record { variables = limit b.0; clauses = b.1; assumptions = record { rising = c.0; within = literals-from_tests r.variables r.assumptions c.1 d.1 }; literals = d.0 }
   where
-    limit : is_within_limits r.variables r.clauses ≡ true → r.variables ≤ 65536
-    limit q = leb-true r.variables 65536 (and_parts (nat_le r.variables 65536) (nat_le (length r.clauses) 1048576) (and_parts _ _ q).0).0
+    limit : is_within_limits r.variables r.clauses ≡ true → r.variables ≤ limits.variables
+    limit q = leb-true r.variables limits.variables (and_parts (nat_le r.variables limits.variables) (nat_le (length r.clauses) limits.clauses) (and_parts _ _ q).0).0
 
 -- loading keeps the search consistent
 pub loaded-consistent : (r : Posted) (first : ℕ) (n : Node) → is_posted r ≡ true → has_literals r ≡ true → IsConsistent n → IsConsistent (loaded r first n)
@@ -122,7 +124,7 @@ loaded-consistent r first n p l h =
       settled = λ e q k. absurd (omega arith);
     }
 
-pub fresh-consistent : (i profile : ℕ) → IsConsistent (fresh_with i profile)
+pub fresh-consistent : (i : ℕ) (profile : Profile) → IsConsistent (fresh_with i profile)
 fresh-consistent i profile = record { order = IsPermutation-refl []; clauses = All-nil (λ c. AreLiteralsOf 0 c.lits); assumptions = record { rising = refl; within = All-nil (IsLiteralOf 0) }; placed = tt; levels = tt; closed = tt; handled = omega arith; settled = λ e q k. absurd (omega arith) }
 
 -- what passes a test passes it again

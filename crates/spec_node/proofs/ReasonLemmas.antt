@@ -153,7 +153,7 @@ all-false t l (m ∷ ms) f h =
     by_case true q k = subst (λ (y : ℕ). is_false t y ≡ true) (sym (eqb-true m l q)) f
     by_case false q k = k
 
--- a literal that fell behind the prefix has the level reached
+-- a literal that fell after the prefix has the level reached
 behind-level : (variables : ℕ) (clauses : List NumberedClause) (prefix t : List TrailEntry) (l : ℕ) → IsGoing variables clauses prefix t → is_false prefix l ≡ false → is_true t l ≡ false → is_false t l ≡ true → level_in t (var_of l) ≡ level_of t
 behind-level variables clauses prefix t l g here no_true fell =
     let rest : List TrailEntry = g.extends.rest in

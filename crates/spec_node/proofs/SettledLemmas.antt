@@ -23,7 +23,7 @@ var_of-negated l = by_sign (l % 2 == 0) refl
     by_sign true e = let u = eqb-true (l % 2) 0 e in omega arith
     by_sign false e = let u = eqb-false (l % 2) 0 e in omega arith
 
--- the literals behind one have greater variables
+-- the literals after one have greater variables
 pub rises-above : (l : ℕ) (ls : List ℕ) → rises (l ∷ ls) ≡ true → All (λ m. var_of l < var_of m) ls
 rises-above l [] h = All-nil (λ m. var_of l < var_of m)
 rises-above l (m ∷ ms) h =

@@ -6,6 +6,9 @@ use Rattle.std.proofs.lemmas.Bool.{leb-true, ltb-true, lt-ltb, le-leb, lt-leb, b
 use Rattle.mal_base.specs.declared.trail_entry.TrailEntry.{TrailEntry}
 use Rattle.mal_revision.specs.Posted.{Posted, is_posted}
 use Rattle.mal_base.specs.NumberedClause.{NumberedClause}
+use Rattle.mal_base.specs.Limits.{limits}
+use Rattle.mal_base.specs.declared.profile.Profile.{Profile}
+use Rattle.mal_base.specs.declared.profile.Profile.TheVariants.{Plain}
 use Rattle.spec_node.specs.State.{Node, fresh_with, fresh}
 use Rattle.spec_node.specs.Value.{level_of}
 use Rattle.spec_node.specs.Cut.{kept, removed, saved}
@@ -34,11 +37,11 @@ kept-level level (e ∷ es) before h = subst (λ (t : List TrailEntry). level_of
 pub kept-short : (level : ℕ) (trail : List TrailEntry) → length (kept level trail) ≤ length trail
 kept-short level trail = let whole : length (kept level trail ++ removed level trail) ≡ length trail = ap length (kept-front level trail) in let sum = length-append (kept level trail) (removed level trail) in omega arith
 
-pub fresh-with_sound : (i profile : ℕ) → i ≤ 63 → IsSound (fresh_with i profile)
+pub fresh-with_sound : (i : ℕ) (profile : Profile) → i ≤ 63 → IsSound (fresh_with i profile)
 fresh-with_sound i profile b = record { ranged = record { index = b; variables = omega arith; restart_number = omega arith; phases = refl; numbers = tt; serial = All-nil (λ c. is_derived c ≡ true → serial_of c < 0) }; consistent = fresh-consistent i profile; reasons = tt; chosen = tt; passed = tt; reached = refl; waiting = λ id e. absurd (cc) }
 
 pub fresh-sound : (i : ℕ) → i ≤ 63 → IsSound (fresh i)
-fresh-sound i b = fresh-with_sound i 1 b
+fresh-sound i b = fresh-with_sound i Plain b
 
 numbers-lower : (low high : ℕ) (cs : List NumberedClause) → low ≤ high → NumbersRise high cs → NumbersRise low cs
 numbers-lower low high [] b h = tt
@@ -110,8 +113,8 @@ loaded-sound r first n p l new h =
     let more_length : length more ≡ added r n = length-replicate (added r n) (first_phase n.index) in
     let clauses : List NumberedClause = with_originals n.clauses (numbered first r.clauses) in
     let low : level_of t ≤ 0 = kept-level 0 n.trail [] (omega arith) in
-    let held_bound : n.variables ≤ 65536 = q.variables in
-    let new_bound : r.variables ≤ 65536 = parts.variables in
+    let held_bound : n.variables ≤ limits.variables = q.variables in
+    let new_bound : r.variables ≤ limits.variables = parts.variables in
     record {
       ranged = record {
         index = q.index;

@@ -96,7 +96,7 @@ free_from_open trail l t f = false_from_ne_true (has_value trail (var_of l)) (λ
     by_value (inl k) = both_ways _ t k
     by_value (inr k) = both_ways _ f k
 
--- a variable with a value before has none behind
+-- a variable with a value before has none after
 pub placed-apart : (variables : ℕ) (es before : List TrailEntry) (v : ℕ) → EachAfter (IsPlaced variables) before es → has_value before v ≡ true → has_value es v ≡ true → ⊥
 placed-apart variables [] before v h b k = absurd (cc)
 placed-apart variables (e ∷ es) before v h b k = by_place (placed-apart variables es (before ++ e ∷ []) v h.1 (list_any-append (λ x. v == var_of x.lit) before (e ∷ []) ∙ or_left _ _ b)) (or_cases (v == var_of e.lit) (has_value es v) k)

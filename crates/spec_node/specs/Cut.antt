@@ -8,7 +8,7 @@ use Rattle.spec_node.specs.State.{Node}
 abbrev pub kept : ℕ → List TrailEntry → List TrailEntry
 kept level trail = take_while (λ e. nat_le e.level level) trail
 
--- the entries behind them
+-- the entries after them
 abbrev pub removed : ℕ → List TrailEntry → List TrailEntry
 removed level trail = drop (length (kept level trail)) trail
 

@@ -1,5 +1,7 @@
 use Rattle.std.specs.Prelude.{ℕ, ◌+◌, max, Bool, not, ◌&&◌, ◌==◌, bytes_eq, List, length, filter, fold, None, if◌then◌else◌}
 use Rattle.std.specs.List.{list_any}
+use Rattle.mal_base.specs.declared.profile.Profile.{Profile}
+use Rattle.mal_base.specs.Profiles.{policy}
 use Rattle.mal_base.specs.NumberedClause.{NumberedClause}
 use Rattle.spec_node.specs.State.{Node}
 use Rattle.spec_node.specs.Cut.{cut}
@@ -33,10 +35,10 @@ with_new new n =
       conflict = None;
     }
 
--- whether a node leaves off an import that takes no clause: under profile 2 it does, under profile 1 it is cut all the
--- same
-abbrev pub is_left_off : ℕ → List NumberedClause → Bool
-is_left_off profile new = (profile == 2) && (length new == 0)
+-- whether a node leaves off an import that takes no clause: where its profile skips such imports it does, elsewhere it
+-- is cut all the same
+abbrev pub is_left_off : Profile → List NumberedClause → Bool
+is_left_off profile new = (policy profile).skips_empty_imports && (length new == 0)
 
 -- a node after importing what others exported: with the clauses that are taken
 abbrev pub imported : List NumberedClause → Node → Node

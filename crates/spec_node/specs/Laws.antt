@@ -1,8 +1,10 @@
-use Rattle.std.specs.Prelude.{◌≡◌, ◌≢◌, ℕ, ◌+◌, ◌≤◌, ◌<◌, ◌^◌, Bool, true, ◌&&◌, nat_le, nat_lt, All, Contains, List, [], ◌∷◌, ◌++◌, length, take, map, filter, Option, Some, None}
+use Rattle.std.specs.Prelude.{◌≡◌, ◌≢◌, ℕ, ◌+◌, ◌≤◌, ◌<◌, ◌^◌, Bool, true, false, ◌&&◌, nat_le, nat_lt, All, Contains, List, [], ◌∷◌, ◌++◌, length, take, map, filter, Option, Some, None}
 use Rattle.std.specs.List.{list_all, list_any}
 use Rattle.std.specs.Option.{option_map_or}
 use Rattle.mal_base.specs.Literals.{var_of}
 use Rattle.mal_base.specs.declared.verdict.Verdict.TheVariants.{Satisfiable}
+use Rattle.mal_base.specs.declared.profile.Profile.{Profile}
+use Rattle.mal_base.specs.Profiles.{policy}
 use Rattle.mal_revision.specs.Posted.{Posted, is_posted}
 use Rattle.spec_logic.specs.Logic.{satisfies, is_true_in}
 use Rattle.mal_base.specs.NumberedClause.{NumberedClause}
@@ -45,9 +47,9 @@ pub record AreNewNumbers (r : Posted) (first : ℕ) (n : Node) : Type 0 where
   pub above : All (λ c. c.id < 2 ^ 32 → c.id < first) n.clauses
   pub below : first + length r.clauses ≤ 2 ^ 32
 
--- a node is sound at its first start, under either profile
+-- a node is sound at its first start, under each profile
 abbrev pub FreshIsSound : Type 0
-FreshIsSound = (i profile : ℕ) → i ≤ 63 → IsSound (fresh_with i profile)
+FreshIsSound = (i : ℕ) (profile : Profile) → i ≤ 63 → IsSound (fresh_with i profile)
 
 -- loading a posted revision under new numbers keeps a node sound
 abbrev pub LoadKeepsSound : Type 0
@@ -55,13 +57,13 @@ LoadKeepsSound = (r : Posted) (first : ℕ) (n : Node) → is_posted r ≡ true 
 
 -- the search of a node is consistent from its first start on
 abbrev pub FreshIsConsistent : Type 0
-FreshIsConsistent = (i profile : ℕ) → IsConsistent (fresh_with i profile)
+FreshIsConsistent = (i : ℕ) (profile : Profile) → IsConsistent (fresh_with i profile)
 
 -- loading a posted revision keeps the search consistent
 abbrev pub LoadKeepsConsistent : Type 0
 LoadKeepsConsistent = (r : Posted) (first : ℕ) (n : Node) → is_posted r ≡ true → has_literals r ≡ true → IsConsistent n → IsConsistent (loaded r first n)
 
--- what loading a revision leaves in a node: its clauses behind the originals held, and its assumptions, no verdict, the
+-- what loading a revision leaves in a node: its clauses after the originals held, and its assumptions, no verdict, the
 -- index and the profile
 pub record LoadHolds : Type 0 where
   pub originals : (r : Posted) (first : ℕ) (n : Node) → first + length r.clauses ≤ 2 ^ 32 → originals (loaded r first n).clauses ≡ originals n.clauses ++ numbered first r.clauses
@@ -70,7 +72,7 @@ pub record LoadHolds : Type 0 where
   pub index : (r : Posted) (first : ℕ) (n : Node) → (loaded r first n).index ≡ n.index
   pub profile : (r : Posted) (first : ℕ) (n : Node) → (loaded r first n).profile ≡ n.profile
 
--- numbered clauses mean what the clauses mean, and clauses behind others mean both
+-- numbered clauses mean what the clauses mean, and clauses after others mean both
 pub record NumbersMeanSame : Type 0 where
   pub by_number : (a : List Bool) (first : ℕ) (cs : List (Option (List ℕ))) → satisfies a (formula_of (numbered first cs)) ≡ satisfies a cs
   pub joined : (a : List Bool) (xs ys : List NumberedClause) → satisfies a (formula_of (xs ++ ys)) ≡ (satisfies a (formula_of xs) && satisfies a (formula_of ys))
@@ -114,12 +116,12 @@ pub record ImportHolds : Type 0 where
   pub held : (exported : List NumberedClause) (n : Node) (c : NumberedClause) → Contains (imported exported n).clauses c → Contains (n.clauses ++ exported) c
   pub kept : (exported : List NumberedClause) (n : Node) (c : NumberedClause) → Contains n.clauses c → Contains (imported exported n).clauses c
 
--- under profile 2 an import that takes no clause leaves a node as it is; any other import cuts it, whether it takes
--- clauses or not
+-- where the profile skips empty imports, an import that takes no clause leaves a node as it is; any other import cuts
+-- it, and under the other profiles each import does, whether it takes clauses or not
 pub record ImportMayLeave : Type 0 where
-  pub left : (exported : List NumberedClause) (n : Node) → n.profile ≡ 2 → taken exported n.clauses ≡ [] → imported exported n ≡ n
+  pub left : (exported : List NumberedClause) (n : Node) → (policy n.profile).skips_empty_imports ≡ true → taken exported n.clauses ≡ [] → imported exported n ≡ n
   pub takes : (exported : List NumberedClause) (n : Node) → taken exported n.clauses ≢ [] → imported exported n ≡ with_new (taken exported n.clauses) n
-  pub other : (exported : List NumberedClause) (n : Node) → n.profile ≢ 2 → imported exported n ≡ with_new (taken exported n.clauses) n
+  pub other : (exported : List NumberedClause) (n : Node) → (policy n.profile).skips_empty_imports ≡ false → imported exported n ≡ with_new (taken exported n.clauses) n
 
 -- in a sound node without a waiting conflict each clause of a batch that was handled has a true literal
 abbrev pub HandledAreTrue : Type 0

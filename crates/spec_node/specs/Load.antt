@@ -31,7 +31,7 @@ first_phase index = index % 2 == 1
 abbrev pub is_derived : NumberedClause → Bool
 is_derived c = nat_le (2 ^ 32) c.id
 
--- new original clauses stand behind the originals held and before the derived clauses
+-- new original clauses stand after the originals held and before the derived clauses
 abbrev pub with_originals : List NumberedClause → List NumberedClause → List NumberedClause
 with_originals held new = filter (λ c. nat_lt c.id (2 ^ 32)) held ++ (new ++ filter is_derived held)
 

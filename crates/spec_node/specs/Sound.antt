@@ -2,6 +2,7 @@ use Rattle.std.specs.Prelude.{◌≡◌, ℕ, ◌+◌, ◌-◌, ◌/◌, ◌≤�
 use Rattle.std.specs.List.{list_all, list_any}
 use Rattle.std.specs.List.Sorted.{IsPermutation}
 use Rattle.std.specs.Option.{option_map_or}
+use Rattle.mal_base.specs.Limits.{limits}
 use Rattle.mal_base.specs.Literals.{var_of}
 use Rattle.mal_base.specs.Clauses.{rises}
 use Rattle.mal_base.specs.declared.trail_entry.TrailEntry.{TrailEntry}
@@ -86,7 +87,7 @@ serial_of c = (c.id - 2 ^ 32) / 64
 -- the sizes and numbers of a node
 pub record IsRanged (n : Node) : Type 0 where
   pub index : n.index ≤ 63
-  pub variables : n.variables ≤ 65536
+  pub variables : n.variables ≤ limits.variables
   pub restart_number : 1 ≤ n.restart_number
   -- one phase a variable
   pub phases : length n.phases ≡ n.variables

@@ -1,15 +1,18 @@
-use Rattle.std.specs.Prelude.{ℕ, Bool, ◌==◌, ◌&&◌, ◌||◌, List, [], Option, None}
+use Rattle.std.specs.Prelude.{ℕ, Bool, List, [], Option, None}
+use Rattle.mal_base.specs.declared.profile.Profile.{Profile}
+use Rattle.mal_base.specs.declared.profile.Profile.TheVariants.{Plain}
+use Rattle.mal_base.specs.Profiles.{policy, may_stand}
 use Rattle.mal_base.specs.NumberedClause.{NumberedClause}
 use Rattle.mal_base.specs.declared.trail_entry.TrailEntry.{TrailEntry}
 use Rattle.mal_base.specs.declared.verdict.Verdict.{Verdict}
 
--- a solver node: its place in the tree, the profile that it follows (1 or 2), its variables 1 to V, the serial that its
--- next derived clause has, the conflicts since the last restart, the number of the restart, the conflicts learned since
--- the last dropping (under profile 2), the batches handled, the clause of a waiting conflict, a verdict, the
+-- a solver node: its place in the tree, the profile that it follows, its variables 1 to V, the serial that its next
+-- derived clause has, the conflicts since the last restart, the number of the restart, the conflicts learned since the
+-- last dropping (where the profile reduces), the batches handled, the clause of a waiting conflict, a verdict, the
 -- assumptions by variable, the decision order, a phase per variable, the trail, and the clauses by rising number
 pub record Node : Type 0 where
   pub index : ℕ
-  pub profile : ℕ
+  pub profile : Profile
   pub variables : ℕ
   pub serial : ℕ
   pub conflicts_since_restart : ℕ
@@ -25,13 +28,13 @@ pub record Node : Type 0 where
   pub clauses : List NumberedClause
 
 -- the node of this index and profile at its first start
-abbrev pub fresh_with : ℕ → ℕ → Node
+abbrev pub fresh_with : ℕ → Profile → Node
 fresh_with i profile = record { index = i; profile = profile; variables = 0; serial = 0; conflicts_since_restart = 0; restart_number = 1; conflicts_since_dropping = 0; processed = 0; conflict = None; verdict = None; assumptions = []; order = []; phases = []; trail = []; clauses = [] }
 
--- that of profile 1
+-- that of the first profile
 abbrev pub fresh : ℕ → Node
-fresh i = fresh_with i 1
+fresh i = fresh_with i Plain
 
--- a node follows profile 1, under which no conflicts are counted for droppings, or profile 2
+-- a node counts conflicts for droppings only where its profile reduces
 abbrev pub has_profile : Node → Bool
-has_profile n = (n.profile == 2) || ((n.profile == 1) && (n.conflicts_since_dropping == 0))
+has_profile n = may_stand (policy n.profile).reduction n.conflicts_since_dropping

@@ -7,7 +7,7 @@ use Rattle.spec_parcel.specs.Packed.{Placed, Told, listed, placed_bytes, sized, 
 use Rattle.spec_parcel.specs.Apart.{AreApart, AreShort, FitsPlaced, FitsTold, IsShort, NodesAreApart, SlicesAreApart}
 use Rattle.spec_parcel.proofs.SizedLemmas.{spelled-apart, sized_are_apart}
 
--- as many of what is apart, one behind the other
+-- as many of what is apart, one after the other
 each-apart : {X : Type 0} (Fits : X → Type 0) (bytes_of : X → List ℕ) → AreApart Fits bytes_of → (xs ys : List X) (more rest : List ℕ) → AllByRecursion Fits xs → AllByRecursion Fits ys
     → length xs ≡ length ys → flat_map bytes_of xs ++ more ≡ flat_map bytes_of ys ++ rest → (xs ≡ ys) × (more ≡ rest)
 each-apart Fits bytes_of apart [] [] more rest fit fits len e = (refl, e)
@@ -23,14 +23,14 @@ each-apart {X} Fits bytes_of apart (x ∷ xs) (y ∷ ys) more rest fit fits len 
     let both : x ∷ xs ≡ y ∷ ys = cc in
     (both, others.1)
 
--- a list behind its length is apart where its elements are
+-- a list after its length is apart where its elements are
 pub listed-apart : {X : Type 0} (Fits : X → Type 0) (bytes_of : X → List ℕ) → AreApart Fits bytes_of → AreApart (AreShort Fits) (listed bytes_of)
 listed-apart Fits bytes_of apart xs ys more rest fit fits e =
     let regrouped : spelled w64 (length xs) ++ (flat_map bytes_of xs ++ more) ≡ spelled w64 (length ys) ++ (flat_map bytes_of ys ++ rest) = sym (append_assoc (spelled w64 (length xs)) (flat_map bytes_of xs) more) ∙ e ∙ append_assoc (spelled w64 (length ys)) (flat_map bytes_of ys) rest in
     let front = spelled-apart (length xs) (length ys) (flat_map bytes_of xs ++ more) (flat_map bytes_of ys ++ rest) fit.0 fits.0 regrouped in
     each-apart Fits bytes_of apart xs ys more rest fit.1 fits.1 front.0 front.1
 
--- a number of 8 bytes and bytes behind their length
+-- a number of 8 bytes and bytes after their length
 pair-apart : (m n : ℕ) (xs ys more rest : List ℕ) → m < 2 ^ 64 → n < 2 ^ 64 → IsShort xs → IsShort ys → (spelled w64 m ++ sized xs) ++ more ≡ (spelled w64 n ++ sized ys) ++ rest → (m ≡ n) × ((xs ≡ ys) × (more ≡ rest))
 pair-apart m n xs ys more rest small fits short shorts e =
     let regrouped : spelled w64 m ++ (sized xs ++ more) ≡ spelled w64 n ++ (sized ys ++ rest) = sym (append_assoc (spelled w64 m) (sized xs) more) ∙ e ∙ append_assoc (spelled w64 n) (sized ys) rest in

@@ -1,4 +1,4 @@
--- Numbers of 8 bytes, and bytes behind their length, are apart.
+-- Numbers of 8 bytes, and bytes after their length, are apart.
 use Rattle.std.proofs.Common.{◌≡◌, ℕ, ◌<◌, ◌^◌, List, ◌++◌, length, take, drop, refl, sym, ap, ◌∙◌, append_assoc}
 use Rattle.std.specs.Int.{w64, from_be_bytes, to_be_bytes}
 use Rattle.std.proofs.lemmas.List.{take_at, drop_at}
@@ -6,7 +6,7 @@ use Rattle.std.proofs.lemmas.Nat.{from_be_bytes-to_be_bytes_8}
 use Rattle.mal_freeze.specs.Spelling.{spelled}
 use Rattle.spec_parcel.specs.Apart.{AreApart, SizedAreApart}
 
--- the number that is spelled in front of bytes, and what is behind it
+-- the number that is spelled in front of bytes, and what is after it
 pub spelled-front : (n : ℕ) (more : List ℕ) → n < 2 ^ 64 → (from_be_bytes w64 (take 8 (spelled w64 n ++ more)) ≡ n) × (drop 8 (spelled w64 n ++ more) ≡ more)
 unfolding spelled
 spelled-front n more lt =
@@ -26,7 +26,7 @@ fronts-apart xs ys more rest len e = (
   sym (drop_at xs more (length xs) refl) ∙ ap (λ (bytes : List ℕ). drop (length xs) bytes) e ∙ drop_at ys rest (length xs) (sym len),
 )
 
--- bytes behind their length are apart
+-- bytes after their length are apart
 pub sized_are_apart : SizedAreApart
 sized_are_apart xs ys more rest short fits e =
     let regrouped : spelled w64 (length xs) ++ (xs ++ more) ≡ spelled w64 (length ys) ++ (ys ++ rest) = sym (append_assoc (spelled w64 (length xs)) xs more) ∙ e ∙ append_assoc (spelled w64 (length ys)) ys rest in

@@ -1,4 +1,4 @@
--- Bytes that no other bytes of their kind begin, so that what is written behind them is read from where they end.
+-- Bytes that no other bytes of their kind begin, so that what is written after them is read from where they end.
 use Rattle.std.specs.Prelude.{◌≡◌, ℕ, ◌<◌, ◌^◌, List, ◌++◌, length, map, codes}
 use Rattle.std.specs.List.{AllByRecursion}
 use Rattle.spec_job.specs.KeyedJob.{Key}
@@ -28,7 +28,7 @@ pub record FitsTold (t : Told) : Type 0 where
   pub count : t.count < 2 ^ 64
   pub text : IsShort t.text
 
--- bytes behind their length are apart, nodes are, and slices are
+-- bytes after their length are apart, nodes are, and slices are
 abbrev pub SizedAreApart : Type 0
 SizedAreApart = AreApart IsShort sized
 

@@ -21,7 +21,7 @@ use Rattle.spec_script.specs.Script.{ScriptedJob, Scripted, spelling}
 use Rattle.spec_script.specs.declared.step.Step.{Step}
 use Rattle.spec_script.specs.declared.step.Step.TheVariants as step
 
--- bytes behind their length
+-- bytes after their length
 abbrev pub sized : List ℕ → List ℕ
 sized xs = spelled w64 (length xs) ++ xs
 

@@ -12,7 +12,7 @@ pub fn parcel_examples()
     ensures runs { HasRuns }
 {}
 
-/// Bytes behind their length, nodes and slices are read from the front of what they stand before: no others begin the
+/// Bytes after their length, nodes and slices are read from the front of what they stand before: no others begin the
 /// same text, and what follows is the same.
 #[tactic(auto, using(crate::proofs::SizedLemmas::sized_are_apart, crate::proofs::ListedLemmas::nodes_are_apart, crate::proofs::ListedLemmas::slices_are_apart))]
 pub fn pieces_are_apart()

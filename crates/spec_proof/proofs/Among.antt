@@ -3,10 +3,7 @@ use Rattle.std.proofs.Common.{◌≡◌, zero, suc, List, [], ◌∷◌, ◌++�
 use Rattle.std.specs.Prelude.{All}
 use Rattle.std.proofs.lemmas.List.Elements.{All-nil, All-cons, All-contains}
 use Rattle.mal_base.specs.NumberedClause.{Line}
-
-abbrev pub Among : Line → List Line → Type 0
-Among x [] = ⊥
-Among x (y ∷ ys) = (y ≡ x) ⊎ Among x ys
+use Rattle.spec_proof.specs.Among.{Among}
 
 pub among-from_contains : (xs : List Line) (x : Line) → Contains xs x → Among x xs
 among-from_contains [] x (k, h, e) = absurd (omega arith)
@@ -29,7 +26,7 @@ pub all-from_among : (P : Line → Type 0) (xs : List Line) → ((x : Line) → 
 all-from_among P [] h = All-nil P
 all-from_among P (y ∷ ys) h = All-cons P y ys (h y (inl refl)) (all-from_among P ys (λ x k. h x (inr k)))
 
--- among two lists, one behind the other
+-- among two lists, one after the other
 pub among-append : (xs ys : List Line) (x : Line) → Among x (xs ++ ys) → Among x xs ⊎ Among x ys
 among-append [] ys x h = inr h
 among-append (y ∷ xs) ys x (inl e) = inl (inl e)
@@ -38,3 +35,12 @@ among-append (y ∷ xs) ys x (inr h) = by_rest (among-append xs ys x h)
     by_rest : Among x xs ⊎ Among x ys → Among x (y ∷ xs) ⊎ Among x ys
     by_rest (inl k) = inl (inr k)
     by_rest (inr k) = inr k
+
+pub among-left : (xs ys : List Line) (x : Line) → Among x xs → Among x (xs ++ ys)
+among-left [] ys x h = absurd h
+among-left (y ∷ xs) ys x (inl e) = inl e
+among-left (y ∷ xs) ys x (inr h) = inr (among-left xs ys x h)
+
+pub among-right : (xs ys : List Line) (x : Line) → Among x ys → Among x (xs ++ ys)
+among-right [] ys x h = h
+among-right (y ∷ xs) ys x h = inr (among-right xs ys x h)

@@ -11,11 +11,12 @@ use Rattle.spec_logic.specs.Refutation.{numbered, with_clause, after_lines, refu
 use Rattle.spec_logic.proofs.RefutationLemmas.{IsAccepted, accepted-parts}
 use Rattle.spec_proof.specs.Log.{added, proof_of, IsAbove, AreApart, holding}
 use Rattle.spec_proof.specs.Laws.{LogGrows, LogTakesProof, LogTakesOriginals}
-use Rattle.spec_proof.proofs.Among.{Among, of-all}
+use Rattle.spec_proof.specs.Among.{Among}
+use Rattle.spec_proof.proofs.Among.{of-all}
 use Rattle.spec_proof.proofs.Deriving.{derived-more}
 use Rattle.spec_proof.proofs.LogLemmas.{HeldBy, with-other, held-cases, apart-lines}
 
--- no number is held behind the last original
+-- no number is held after the last original
 pub numbered-past : (xs : List (Option (List ℕ))) (id : ℕ) → length xs < id → numbered xs id ≡ None
 numbered-past xs id high = ap (λ (b : Bool). cond b None (slice_get xs (id - 1))) (ne_eqb id 0 (λ e. omega arith)) ∙ slice_get_past xs (id - 1) (omega arith)
 

@@ -6,6 +6,7 @@ pub mod Growing
 pub mod Reaching
 pub mod OrderLemmas
 pub mod Refuting
+pub mod Contradicting
 -- what this crate alone cites
 mod Staying
 mod Renumbering

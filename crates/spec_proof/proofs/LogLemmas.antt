@@ -9,7 +9,8 @@ use Rattle.spec_logic.specs.Refutation.{numbered, with_clause, after_lines, IsPr
 use Rattle.spec_logic.proofs.RefutationLemmas.{IsAccepted, accepted-parts}
 use Rattle.spec_proof.specs.Log.{proof_of, IsAbove, AreApart}
 use Rattle.spec_proof.specs.Laws.{LogHolds, LogIsOrderly, EmptyIsLog}
-use Rattle.spec_proof.proofs.Among.{Among, among-from_contains, contains-from_among, all-from_among}
+use Rattle.spec_proof.specs.Among.{Among}
+use Rattle.spec_proof.proofs.Among.{among-from_contains, contains-from_among, all-from_among}
 use Rattle.spec_proof.proofs.Deriving.{derived-more}
 
 -- one clause more: what was held stays, and the new one is held

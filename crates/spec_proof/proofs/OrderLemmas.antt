@@ -10,7 +10,8 @@ use Rattle.std.proofs.lemmas.List.Sorted.{Contains-permutation, IsPermutation-sy
 use Rattle.mal_base.specs.NumberedClause.{Line}
 use Rattle.spec_proof.specs.Log.{IsAbove, AreApart, IsOrderly}
 use Rattle.spec_proof.specs.Trimmed.{by_id, AreRising, IsTrimmed, ids_of}
-use Rattle.spec_proof.proofs.Among.{Among, among-from_contains, contains-from_among, of-all, all-from_among}
+use Rattle.spec_proof.specs.Among.{Among}
+use Rattle.spec_proof.proofs.Among.{among-from_contains, contains-from_among, of-all, all-from_among}
 use Rattle.spec_proof.proofs.Reaching.{sorted-among, among-sorted, sorted-rising}
 
 -- one line more, with a number of its own

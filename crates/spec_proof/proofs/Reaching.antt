@@ -9,7 +9,8 @@ use Rattle.mal_base.proofs.Sorting.{Contains-head, Contains-later, Contains-case
 use Rattle.spec_proof.specs.Log.{IsAbove, AreApart, IsOrderly}
 use Rattle.spec_proof.specs.Trimmed.{put, by_id, AreRising, IsTrimmed, is_needed, with_needed, reached_in, reached}
 use Rattle.spec_proof.specs.Laws.{ReachedIsReached, GoalIsLast}
-use Rattle.spec_proof.proofs.Among.{Among, among-from_contains, contains-from_among, of-all, all-from_among}
+use Rattle.spec_proof.specs.Among.{Among}
+use Rattle.spec_proof.proofs.Among.{among-from_contains, contains-from_among, of-all, all-from_among}
 
 -- sorting keeps the lines
 pub put-cases : (line : Line) (xs : List Line) (y : Line) → Among y (put line xs) → (line ≡ y) ⊎ Among y xs

@@ -10,7 +10,8 @@ use Rattle.spec_logic.specs.Refutation.{numbered, with_clause, IsProof, added_by
 use Rattle.spec_proof.specs.Log.{proof_of, IsAbove, holding, IsLog}
 use Rattle.spec_proof.specs.Trimmed.{by_id, AreRising, reached, ids_of, new_id, renamed, renumbered}
 use Rattle.spec_proof.specs.Laws.{TrimmedRefutes}
-use Rattle.spec_proof.proofs.Among.{Among, among-from_contains, of-all}
+use Rattle.spec_proof.specs.Among.{Among}
+use Rattle.spec_proof.proofs.Among.{among-from_contains, of-all}
 use Rattle.spec_proof.proofs.Deriving.{derived-renamed}
 use Rattle.spec_proof.proofs.LogLemmas.{HeldBy, with-new, with-keeps, with-other, held-cases, derived-in-end, log-orderly}
 use Rattle.spec_proof.proofs.Growing.{numbered-past, numbered-within, accepted-from}

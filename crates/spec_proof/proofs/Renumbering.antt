@@ -5,9 +5,10 @@ use Rattle.mal_base.specs.NumberedClause.{Line}
 use Rattle.spec_proof.specs.Log.{AreApart}
 use Rattle.spec_proof.specs.Trimmed.{ids_of, new_id, renamed, counted}
 use Rattle.spec_proof.specs.Laws.{NumbersFollow, OthersStay}
-use Rattle.spec_proof.proofs.Among.{Among, of-all}
+use Rattle.spec_proof.specs.Among.{Among}
+use Rattle.spec_proof.proofs.Among.{of-all}
 
--- behind the first line, where it is another one
+-- after the first line, where it is another one
 abbrev pub Behind : Line → List Line → Line → Type 0
 Behind x xs y = (x.id == y.id) ≡ false → Among y (x ∷ xs) → Among y xs
 

@@ -7,7 +7,8 @@ use Rattle.mal_base.specs.NumberedClause.{Line}
 use Rattle.spec_proof.specs.Log.{IsAbove, AreApart, IsOrderly, AreClosed}
 use Rattle.spec_proof.specs.Trimmed.{by_id, AreRising, reached, ids_of, new_id, renamed, renumbered}
 use Rattle.spec_proof.specs.Laws.{GoalStaysLast, LaterLinesDoNotMatter, ClosedLinesGrow, LitsStay}
-use Rattle.spec_proof.proofs.Among.{Among, among-from_contains, of-all, all-from_among}
+use Rattle.spec_proof.specs.Among.{Among}
+use Rattle.spec_proof.proofs.Among.{among-from_contains, of-all, all-from_among}
 use Rattle.spec_proof.proofs.Reaching.{sorted-among, among-sorted, sorted-rising, reached-among, reached-rising, reached-goal, reached-hints, reached-least, goal-is-last}
 use Rattle.spec_proof.proofs.OrderLemmas.{rising-same}
 

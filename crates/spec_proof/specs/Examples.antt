@@ -20,7 +20,7 @@ none = Some [] ∷ []
 abbrev pub four : List (Option (List ℕ))
 four = Some (2 ∷ 4 ∷ []) ∷ Some (2 ∷ 5 ∷ []) ∷ Some (3 ∷ 4 ∷ []) ∷ Some (3 ∷ 5 ∷ []) ∷ []
 
--- a log over these four, of two solvers: a line that the empty clause needs stands behind one with a greater number,
+-- a log over these four, of two solvers: a line that the empty clause needs stands after one with a greater number,
 -- and one line is not needed
 abbrev pub log : List Line
 log = line 4294967297 (4 ∷ []) (1 ∷ 3 ∷ []) ∷ line 4294967296 (2 ∷ []) (1 ∷ 2 ∷ []) ∷ line 4294967360 [] (4294967296 ∷ 3 ∷ 4 ∷ []) ∷ []

@@ -46,7 +46,7 @@ LogTakesProof =
     → IsProof held (proof_of more) → All IsAbove more → All (λ line. All (λ other. other.id ≢ line.id) lines) more
     → IsLog originals (lines ++ more)
 
--- a log stays one where originals are put behind the others
+-- a log stays one where originals are put after the others
 abbrev pub LogTakesOriginals : Type 0
 LogTakesOriginals =
     (originals more : List (Option (List ℕ))) (lines : List Line)
@@ -102,7 +102,7 @@ NumbersFollow = (m : ℕ) (lines : List Line) → AreApart lines → ids_of (ren
 abbrev pub OthersStay : Type 0
 OthersStay = (m : ℕ) (lines : List Line) (id : ℕ) → All (λ line. line.id ≢ id) lines → new_id m (ids_of lines) id ≡ id
 
--- where the clause of the goal's line has negations of assumptions alone, the lines reached from it, numbered behind
+-- where the clause of the goal's line has negations of assumptions alone, the lines reached from it, numbered after
 -- the originals, are a refutation
 abbrev pub TrimmedRefutes : Type 0
 TrimmedRefutes =

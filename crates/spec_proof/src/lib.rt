@@ -48,7 +48,7 @@ pub fn literals_stay()
     ensures { LitsStay }
 {}
 
-/// Renumbered lines have the numbers behind those of the originals, in their order, and other numbers stay.
+/// Renumbered lines have the numbers after those of the originals, in their order, and other numbers stay.
 pub fn new_numbers_follow()
     ensures numbers { NumbersFollow }
     ensures others { OthersStay }

@@ -1,15 +1,16 @@
 -- What small answers are written as.
 use Rattle.std.specs.Prelude.{◌≡◌, ℕ, false, true, List, [], ◌∷◌, codes}
 use Rattle.mal_base.specs.NumberedClause.{Line}
+use Rattle.mal_base.specs.declared.profile.Profile.TheVariants.{Plain, Lean}
 use Rattle.spec_report.specs.Replies.{ReplyBody, Model, Proof, AllSpent, AllStarved, reply_text}
 
--- the text of a reply to a revision of the job p of the tenant a, whose solvers have profile 1
+-- the text of a reply to a revision of the job p of the tenant a, whose solvers have the first profile
 abbrev pub reply_to : ℕ → ReplyBody → List ℕ
-reply_to r told = reply_text (codes "a") (codes "p") r 1 told
+reply_to r told = reply_text (codes "a") (codes "p") r Plain told
 
--- the same where they have profile 2
+-- the same where they have the second
 abbrev pub second_to : ℕ → ReplyBody → List ℕ
-second_to r told = reply_text (codes "a") (codes "p") r 2 told
+second_to r told = reply_text (codes "a") (codes "p") r Lean told
 
 -- a proof of two lines
 abbrev pub two_lines : List Line

@@ -10,7 +10,7 @@ use Rattle.spec_hall.proofs.DrivenLemmas.{driven-is_decided}
 use Rattle.spec_run.specs.Complete.{script_events}
 use Rattle.spec_run.specs.Run.{IsFed, is_fed, RunIsDecided, replies}
 
--- where no start of turns wants for memory, all of them ran: no turn loses a start
+-- where no start of turns runs out of memory, all of them ran: no turn loses a start
 turns-ran : (workers : ℕ) (past : List Event) (ts : List Turn) → AreTurns workers past ts → IsFed (flat_map events_in ts) → list_all has_run ts ≡ true
 turns-ran w past [] turns fed = refl
 turns-ran w past (Balances shares ∷ ts) turns fed = turns-ran w (past ++ Balance shares ∷ []) ts turns.3 fed
@@ -26,7 +26,7 @@ grown-ran w past history grows fed =
     (and_parts (list_all is_fed past) (list_all is_fed (flat_map events_in grows.turns))
     (sym (list_all-append is_fed past (flat_map events_in grows.turns)) ∙ (ap (λ (h : List Event). list_all is_fed h) (sym grows.grown) ∙ fed))).1
 
--- two sequential runs of a script by as many workers, in which no start wanted for memory, are the same run
+-- two sequential runs of a script by as many workers, in which no start ran out of memory, are the same run
 pub run-is_decided : RunIsDecided
 run-is_decided workers s one other log_one log_other out_one out_other first second fed well =
     let ran = grown-ran workers (script_events s) one first.driven.turned fed in

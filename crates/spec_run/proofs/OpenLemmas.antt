@@ -5,6 +5,7 @@ use Rattle.std.proofs.lemmas.Bool.{and_parts, or_parts, or_left, ltb-true}
 use Rattle.std.proofs.lemmas.List.{map-append}
 use Rattle.std.proofs.lemmas.List.Sums.{fold-append}
 use Rattle.std.proofs.lemmas.List.Folds.{list_any-append}
+use Rattle.mal_base.specs.Limits.{limits}
 use Rattle.mal_base.specs.Asks.{IsWeight, Weighed}
 use Rattle.mal_base.specs.Formulas.{literals_of}
 use Rattle.mal_revision.specs.Posted.{Posted, is_posted}
@@ -22,7 +23,7 @@ use Rattle.spec_run.specs.Posting.{IsOpen}
 use Rattle.spec_run.proofs.KeyLemmas.{posted-keys, begun-keys, job-found, among-keys, among-parts, adds-mine}
 use Rattle.spec_run.proofs.TenantLemmas.{jobs-counted, tenant-fits}
 use Rattle.spec_script.specs.Formed.{MayFollow, MayAllFollow}
-use Rattle.spec_script.specs.Limits.{Limits, served}
+use Rattle.mal_base.specs.declared.limits.Limits.{Limits}
 use Rattle.spec_script.specs.Script.{ScriptedJob, revisions_in}
 use Rattle.spec_script.specs.declared.step.Step.{Step}
 use Rattle.spec_script.specs.declared.step.Step.TheVariants as steps
@@ -31,7 +32,7 @@ use Rattle.spec_script.specs.declared.step.Step.TheVariants as steps
 abbrev pub IsApart : Key → List ScriptedJob → Type 0
 IsApart k js = list_any (λ i. is_key k (key_of_job i)) js ≡ false
 
--- a job of a script in form may follow those before it, and those behind it may follow it
+-- a job of a script in form may follow those before it, and those after it may follow it
 pub follow-split : (limits : Limits) (done before : List ScriptedJob) (j : ScriptedJob) (after : List ScriptedJob) → MayAllFollow limits done (before ++ j ∷ after) → MayFollow limits (done ++ before) j × MayAllFollow limits ((done ++ before) ++ j ∷ []) after
 follow-split limits done [] j after h = subst (λ (x : List ScriptedJob). MayFollow limits x j × MayAllFollow limits (x ++ j ∷ []) after) (sym (append-nil done)) h
 follow-split limits done (i ∷ is) j after h =
@@ -52,7 +53,7 @@ apart-after limits k done (j ∷ js) among h = by_test (is_key k (key_of_job j))
     by_test true e rest = absurd (true-not-false (sym (subst (λ (x : Key). list_any (λ i. is_key x (key_of_job i)) done ≡ true) ((is_key-Decides k (key_of_job j)).0 e) among) ∙ h.0.new))
     by_test false e rest = rest
 
--- a job of a script in form, with those before it and those behind it, all of other keys
+-- a job of a script in form, with those before it and those after it, all of other keys
 pub record IsPart (before : List ScriptedJob) (j : ScriptedJob) (after : List ScriptedJob) : Type 0 where
   pub first : IsApart (key_of_job j) before
   pub last : IsApart (key_of_job j) after
@@ -71,14 +72,14 @@ opened-names limits done (j ∷ js) follow =
     ∙ (opened-names limits (done ++ j ∷ []) js follow.1 ∙ ap (map key_of_job) (append_assoc done (j ∷ []) js)))
 
 -- the next job of a script may be opened
-pub next-may_open : (h : List Event) (js : List ScriptedJob) (j : ScriptedJob) → names_of h ≡ map key_of_job js → MayFollow served js j → MayOpen h (key_of_job j) j.ask
+pub next-may_open : (h : List Event) (js : List ScriptedJob) (j : ScriptedJob) → names_of h ≡ map key_of_job js → MayFollow limits js j → MayOpen h (key_of_job j) j.ask
 next-may_open h js j names follow = record {
   tenant = follow.formed.tenant;
   job = follow.formed.name;
   asked = follow.formed.ask;
   fresh = ap (list_any (is_key (key_of_job j))) names ∙ (among-keys (key_of_job j) js ∙ follow.new);
-  tenant_room = subst (λ (n : ℕ). n < 64) (sym (count ∙ jobs-counted j.tenant js)) (ltb-true _ 64 (and_parts _ _ follow.room).0);
-  hall_room = λ e. subst (λ (ks : List Key). tenant_count ks < 64) (sym names) (tenant-fits js j 64 follow.tenants (sym count ∙ e));
+  tenant_room = subst (λ (n : ℕ). n < limits.jobs_of_tenant) (sym (count ∙ jobs-counted j.tenant js)) (ltb-true _ limits.jobs_of_tenant (and_parts _ _ follow.room).0);
+  hall_room = λ e. subst (λ (ks : List Key). tenant_count ks < limits.tenants) (sym names) (tenant-fits js j limits.tenants follow.tenants (sym count ∙ e));
 }
   where
     count : jobs_of j.tenant (names_of h) ≡ jobs_of j.tenant (map key_of_job js)
@@ -162,15 +163,15 @@ pub open-found : (k : Key) (rs : List Posted) (h : List Event) → IsOpen k rs h
 open-found k rs h is = job-found h k is.known
 
 -- its next revision may be posted where there is room for it
-pub open-may_revise : (k : Key) (rs : List Posted) (h : List Event) (n : ℕ) (r : Posted) → IsOpen k rs h → is_posted r ≡ true → n ≡ length rs + 1 → n ≤ 256 → clauses_in rs + length r.clauses ≤ 1048576 → literals_in rs + literals_of r.clauses ≤ 16777216 → MayRevise h k n r (titled h k)
+pub open-may_revise : (k : Key) (rs : List Posted) (h : List Event) (n : ℕ) (r : Posted) → IsOpen k rs h → is_posted r ≡ true → n ≡ length rs + 1 → n ≤ limits.revisions → clauses_in rs + length r.clauses ≤ limits.clauses → literals_in rs + literals_of r.clauses ≤ limits.literals → MayRevise h k n r (titled h k)
 open-may_revise k rs h n r is formed number few clauses literals = record {
   job = open-found k rs h is;
   open_still = is.unclosed;
   posted = formed;
   next = number ∙ ap (λ (x : List Posted). length x + 1) (sym is.posted);
   room = few;
-  clause_room = subst (λ (x : List Posted). clauses_in x + length r.clauses ≤ 1048576) (sym is.posted) clauses;
-  literal_room = subst (λ (x : List Posted). literals_in x + literals_of r.clauses ≤ 16777216) (sym is.posted) literals;
+  clause_room = subst (λ (x : List Posted). clauses_in x + length r.clauses ≤ limits.clauses) (sym is.posted) clauses;
+  literal_room = subst (λ (x : List Posted). literals_in x + literals_of r.clauses ≤ limits.literals) (sym is.posted) literals;
 }
 
 -- its ask may change

@@ -15,7 +15,7 @@ use Rattle.spec_run.specs.Accounted.{AreWritten, event_by, job_under, numbered, 
 use Rattle.spec_run.specs.Complete.{is_post_of, job_events, jobs_of_tenant, key_of_job, open_events, posts_of, step_events}
 use Rattle.spec_run.proofs.OpenLemmas.{IsApart, IsPart, part-of}
 use Rattle.spec_script.specs.Formed.{IsScript, MayAllFollow}
-use Rattle.spec_script.specs.Limits.{served}
+use Rattle.mal_base.specs.Limits.{limits}
 use Rattle.spec_script.specs.Script.{ScriptedJob, Scripted, revisions, revisions_in}
 use Rattle.spec_script.specs.declared.step.Step.{Step}
 use Rattle.spec_script.specs.declared.step.Step.TheVariants as steps
@@ -163,10 +163,10 @@ abbrev AreUnder : Scripted → List ScriptedJob → Type 0
 AreUnder s [] = Unit {0}
 AreUnder s (j ∷ js) = (job_under (key_of_job j) s.jobs ≡ Some j) × AreUnder s js
 
-all-under : (s : Scripted) (before js : List ScriptedJob) → s.jobs ≡ before ++ js → IsScript served s → AreUnder s js
+all-under : (s : Scripted) (before js : List ScriptedJob) → s.jobs ≡ before ++ js → IsScript limits s → AreUnder s js
 all-under s before [] is formed = tt
 all-under s before (j ∷ js) is formed =
-    let part : IsPart before j js = part-of served before j js (subst (λ (x : List ScriptedJob). MayAllFollow served [] x) is formed) in (
+    let part : IsPart before j js = part-of limits before j js (subst (λ (x : List ScriptedJob). MayAllFollow limits [] x) is formed) in (
       ap (job_under (key_of_job j)) is ∙ under-key before j js part.first,
       all-under s (before ++ j ∷ []) js (is ∙ sym (append_assoc before (j ∷ []) js)) formed,
     )
@@ -187,7 +187,7 @@ posted-scripted : (s : Scripted) (js : List ScriptedJob) → AreUnder s js → A
 posted-scripted s [] are = refl
 posted-scripted s (j ∷ js) are = scripted-append s (job_events j) (flat_map job_events js) (job-scripted s j are.0) (posted-scripted s js are.1)
 
-pub posts-scripted : (s : Scripted) (tenant : List ℕ) → IsScript served s → AreScripted s (posts_of tenant s)
+pub posts-scripted : (s : Scripted) (tenant : List ℕ) → IsScript limits s → AreScripted s (posts_of tenant s)
 posts-scripted s tenant formed =
     let js : List ScriptedJob = jobs_of_tenant tenant s in
     scripted-append s (open_events js) (flat_map job_events js) (opened-scripted s js) (posted-scripted s js (filter-under s (λ j. is_text tenant j.tenant) s.jobs (all-under s [] s.jobs refl formed)))
@@ -220,7 +220,7 @@ same-scripted : (s : Scripted) (one other : List Event) → AreScripted s one �
 same-scripted s one other a b same = some-same one other (sym a ∙ (ap (map (event_by s)) same ∙ b))
 
 -- each tenant posted just what the script says, exactly where it is written so
-pub lines-posted : (s : Scripted) (lines : List written.Event) (events : List Event) → IsScript served s → AreWritten s lines events → HavePosts s lines → (tenant : List ℕ) → filter (is_post_of tenant) events ≡ posts_of tenant s
+pub lines-posted : (s : Scripted) (lines : List written.Event) (events : List Event) → IsScript limits s → AreWritten s lines events → HavePosts s lines → (tenant : List ℕ) → filter (is_post_of tenant) events ≡ posts_of tenant s
 lines-posted s lines events formed are have tenant =
     same-scripted s (filter (is_post_of tenant) events) (posts_of tenant s) (scripted-filter s (is_post_of tenant) events (scripted-of s lines events are)) (posts-scripted s tenant formed) (sym (posts-bare tenant events) ∙ (ap (post_lines tenant) (sym (written-bare s lines events are)) ∙ have tenant))
 

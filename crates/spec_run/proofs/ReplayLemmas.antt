@@ -22,7 +22,7 @@ record IsAllowedAt (w : ℕ) (s : Scripted) (past : List Event) (line : written.
   is : event_by s line ≡ Some event
   allowed : Allowed w past event
 
--- of a history that is legal behind a past the first events are written, and the next is allowed
+-- of a history that is legal after a past the first events are written, and the next is allowed
 at-place : (w : ℕ) (s : Scripted) (past : List Event) (lines : List written.Event) (events front : List Event) (n : ℕ) (line : written.Event) → AreWritten s lines events → LegalFrom w past events → AreWritten s (take n lines) front → slice_get lines n ≡ Some line → IsAllowedAt w s (past ++ front) line
 at-place w s past [] events front n line are legal begun at = absurd (cc)
 at-place w s past (x ∷ xs) [] front n line are legal begun at = absurd (cc)

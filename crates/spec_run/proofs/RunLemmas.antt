@@ -18,7 +18,7 @@ use Rattle.spec_script.specs.Script.{Scripted}
 abbrev PostsAreScripted : Scripted → List Event → Type 0
 PostsAreScripted s events = (tenant : List ℕ) → AreScripted s (filter (is_post_of tenant) events)
 
--- behind the first event too
+-- after the first event too
 rest-scripted : (s : Scripted) (e : Event) (es : List Event) → PostsAreScripted s (e ∷ es) → PostsAreScripted s es
 rest-scripted s e es are tenant = by_test (is_post_of tenant e) (are tenant)
   where

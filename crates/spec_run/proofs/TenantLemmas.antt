@@ -53,7 +53,7 @@ other-sum m h o t count rest here there few = omega arith
 one-behind : (n : ℕ) → 0 < n + 1
 one-behind n = omega arith
 
--- with one more job behind these there is one more tenant at most, and none where one of them has its tenant
+-- with one more job after these there is one more tenant at most, and none where one of them has its tenant
 tenants-grow : (ts : List Key) (t : Key) → tenant_count (ts ++ t ∷ []) ≤ tenant_count ts + one_if_zero (jobs_of t.tenant ts)
 tenants-grow [] t = omega arith
 tenants-grow (u ∷ us) t = by_test (is_text u.tenant t.tenant) refl (more-of u.tenant us t) (sum_by-cons (λ (x : Key). cond (is_text t.tenant x.tenant) 1 0) u us) (tenants-grow us t)

@@ -1,5 +1,6 @@
 -- Worked examples.
 use Rattle.std.specs.Prelude.{◌≡◌, [], ◌∷◌, codes, Some, None}
+use Rattle.mal_base.specs.declared.profile.Profile.TheVariants.{Plain}
 use Rattle.mal_history.specs.declared.event.Event.TheVariants as of
 use Rattle.mal_revision.specs.Posted.{Posted}
 use Rattle.spec_hall.specs.Dressed.{keyed}
@@ -14,7 +15,7 @@ free = record { variables = 2; clauses = []; assumptions = [] }
 
 -- a script with the job p of the tenant a, which has that one revision
 abbrev pub one_job : Scripted
-one_job = record { jobs = record { tenant = codes "a"; name = codes "p"; ask = record { priority = 1; demand = 1; slices = 4; profile = 1 }; steps = steps.Revise free ∷ [] } ∷ [] }
+one_job = record { jobs = record { tenant = codes "a"; name = codes "p"; ask = record { priority = 1; demand = 1; slices = 4; profile = Plain }; steps = steps.Revise free ∷ [] } ∷ [] }
 
 -- the first revision of that job is the script's; it lacks a second one, and the revisions of other jobs; a closing
 -- needs none, and a move stands for no event

@@ -8,10 +8,10 @@ use Rattle.mal_base.specs.declared.replay_fault.ReplayFault.TheVariants.{OutOfMe
 use Rattle.spec_run.specs.Replayed.{IsReplay, IsReplied}
 use Rattle.spec_run.specs.Run.{IsRun}
 use Rattle.spec_script.specs.Formed.{IsScript}
-use Rattle.spec_script.specs.Limits.{served}
+use Rattle.mal_base.specs.Limits.{limits}
 use Rattle.spec_script.specs.Script.{Scripted}
 
--- the answers exclude each other: where memory was wanting neither time, the answers to one history are the same
+-- the answers exclude each other: where memory ran out neither time, the answers to one history are the same
 abbrev pub ReplayIsDecided : Type 0
 ReplayIsDecided =
     (workers : ℕ) (s : Scripted) (lines : List written.Event) (line_of : ℕ → ℕ) (one other : Result (List ℕ) ReplayFault)
@@ -22,7 +22,7 @@ ReplayIsDecided =
 abbrev pub RunIsReplied : Type 0
 RunIsReplied =
     (workers : ℕ) (s : Scripted) (history : List Event) (log out : List ℕ)
-    → IsScript served s → IsRun workers s history log out → IsReplied workers s (map bare history) out
+    → IsScript limits s → IsRun workers s history log out → IsReplied workers s (map bare history) out
 
 -- and what a run of 1 to 64 workers writes down is in form, where it has no more events than a text may have
 abbrev pub RunIsFormed : Type 0
@@ -30,8 +30,8 @@ RunIsFormed =
     (workers : ℕ) (s : Scripted) (history : List Event) (log out : List ℕ)
     → 1 ≤ workers → workers ≤ 64 → IsRun workers s history log out → length history ≤ most_events → IsHistory workers (map bare history)
 
--- so no replay of it answers anything else, unless memory is wanting
+-- so no replay of it answers anything else, unless memory runs out
 abbrev pub RunIsReplayed : Type 0
 RunIsReplayed =
     (workers : ℕ) (s : Scripted) (history : List Event) (log out : List ℕ) (line_of : ℕ → ℕ) (answer : Result (List ℕ) ReplayFault)
-    → IsScript served s → IsRun workers s history log out → IsReplay workers s (map bare history) line_of answer → answer ≢ Err OutOfMemory → answer ≡ Ok out
+    → IsScript limits s → IsRun workers s history log out → IsReplay workers s (map bare history) line_of answer → answer ≢ Err OutOfMemory → answer ≡ Ok out

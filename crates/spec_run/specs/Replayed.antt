@@ -44,7 +44,7 @@ pub record IsRefusedAt (workers : ℕ) (s : Scripted) (lines : List written.Even
   pub line_is : line ≡ line_of place
 
 -- what is answered to a history of so many workers that is replayed for a script: the replies where it is legal and
--- complete, else the line of the first event that is not allowed, or that it is not complete; unless memory is wanting
+-- complete, else the line of the first event that is not allowed, or that it is not complete; unless memory runs out
 abbrev pub IsReplay : ℕ → Scripted → List written.Event → (ℕ → ℕ) → Result (List ℕ) ReplayFault → Type 0
 IsReplay workers s lines line_of (Ok text) = IsReplied workers s lines text
 IsReplay workers s lines line_of (Err (NotLegal line)) = IsRefusedAt workers s lines line_of line

@@ -36,7 +36,7 @@ replies s history = flat_map (job_replies history) s.jobs
 
 -- the answers of a job with these own events are evidence: satisfiable carries a model of its revision, unsatisfiable a
 -- proof from the job's clauses alone, and unknown is accounted for: the budget was spent on slices without a verdict,
--- or three starts wanted for memory; where none did, each answer is a verdict, or the budget was spent
+-- or three starts ran out of memory; where none did, each answer is a verdict, or the budget was spent
 pub record IsEvident (own : List Own) : Type 0 where
   pub models : AnswersSolve (solo own)
   pub proofs : AnswersRefute (solo own)
@@ -57,12 +57,12 @@ pub record IsSequentialRun (workers : ℕ) (s : Scripted) (history : List Event)
   pub run : IsRun workers s history log out
   pub driven : IsDriven workers (script_events s) history
 
--- whether an event is no end of a start that wanted for memory
+-- whether an event is no end of a start that ran out of memory
 abbrev pub is_fed : Event → Bool
 is_fed (Finish k index worker outcome) = had_memory outcome
 is_fed event = true
 
--- no start of a history wanted for memory
+-- no start of a history ran out of memory
 abbrev pub IsFed : List Event → Type 0
 IsFed history = list_all is_fed history ≡ true
 
@@ -72,7 +72,7 @@ pub record AreSameRuns (one other : List Event) (log_one log_other out_one out_o
   pub logs : log_one ≡ log_other
   pub outs : out_one ≡ out_other
 
--- a script is run sequentially in one way where no start wants for memory: the history, and with it the log and the
+-- a script is run sequentially in one way where no start runs out of memory: the history, and with it the log and the
 -- output, are decided by the script and the number of workers
 abbrev pub RunIsDecided : Type 0
 RunIsDecided = (workers : ℕ) (s : Scripted) (one other : List Event) (log_one log_other out_one out_other : List ℕ) → IsSequentialRun workers s one log_one out_one → IsSequentialRun workers s other log_other out_other → IsFed one → IsFed other → AreSameRuns one other log_one log_other out_one out_other

@@ -2,13 +2,14 @@
 
 ghost use Rattle.spec_run.specs.{ReplayExamples.{HasEvents}, ReplayLaws.{ReplayIsDecided, RunIsFormed, RunIsReplayed, RunIsReplied}};
 
-/// There is one answer to a replay at most, where memory was not wanting.
+/// There is one answer to a replay at most, where memory did not run out.
 pub fn replay_is_decided()
     ensures { ReplayIsDecided }
 {}
 
 /// A run's own history replays to its output: it is legal and complete for the script, and its replies are the output.
-/// It is in form where it has at most 2^24 events. So a replay of it answers nothing else, where memory was not wanting.
+/// It is in form where it has at most 2^24 events. So a replay of it answers nothing else, where memory did not run
+/// out.
 pub fn run_is_replayed()
     ensures replied { RunIsReplied }
     ensures formed { RunIsFormed }

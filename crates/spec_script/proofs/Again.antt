@@ -6,12 +6,15 @@ use Rattle.std.proofs.lemmas.Bool.{leb-true}
 use Rattle.std.proofs.lemmas.Bool.Decides.{nat_tests}
 use Rattle.std.proofs.lemmas.Grind.{flat_map-append}
 use Rattle.std.proofs.lemmas.List.Sums.{sum_by-cons, fold-append}
+use Rattle.mal_base.specs.Limits.{limits}
 use Rattle.mal_base.specs.Asks.{Terms, IsAsk, Weighed}
 use Rattle.mal_base.specs.Formulas.{Formulated, is_within, is_clause_of, is_within_limits, is_formula, literals_of}
 use Rattle.mal_base.specs.Clauses.{rises}
 use Rattle.mal_base.proofs.Sorting.{and-left, and-right}
 use Rattle.mal_revision.specs.Posted.{Posted, is_posted}
-use Rattle.spec_text.specs.Asks.{profile_words}
+use Rattle.mal_base.specs.Profiles.{number, last_profile}
+use Rattle.mal_base.specs.declared.profile.Profile.{Profile}
+use Rattle.spec_text.specs.Asks.{is_first, profile_words}
 use Rattle.spec_text.specs.Numbers.{decimal_word}
 use Rattle.spec_text.proofs.Numerals.{is_numeral-decimal, value_of-decimal}
 use Rattle.mal_base.specs.declared.block_fault.BlockFault.{BlockFault}
@@ -23,11 +26,12 @@ use Rattle.spec_dimacs.specs.Written.{clause_words, header_words, formula_rows}
 use Rattle.spec_dimacs.proofs.Behind.{Leads, whole_leads}
 use Rattle.spec_dimacs.proofs.Again.{written_rows}
 use Rattle.spec_dimacs.proofs.Laws.{written_is_read}
-use Rattle.spec_script.specs.Limits.{Limits}
+use Rattle.mal_base.specs.declared.limits.Limits.{Limits}
 use Rattle.spec_script.specs.Script.{ScriptedJob, revisions, revisions_at, revisions_in, rows_of, spelling}
 use Rattle.spec_script.specs.declared.step.Step.{Step}
 use Rattle.spec_script.specs.declared.step.Step.TheVariants.{Revise, Reask}
 use Rattle.spec_script.specs.Reading.{OpenJob, Reading, begun, with_revision, with_weight}
+use Rattle.spec_text.proofs.Asked.{first-is, number-bound, some-number}
 use Rattle.spec_script.specs.Formed.{with_name, tenants_of, clauses_of, clause_literals, is_up_to, is_weight, is_step, IsJob, MayFollow, MayAllFollow}
 use Rattle.spec_script.specs.Grammar.{Asks, SayProfile, SaysUpTo, formula_of, Reasks, Revises, StepAll, Runs, MakeAll}
 use Rattle.spec_script.specs.Laws.{WrittenIsSpelled, WrittenIsRead}
@@ -45,12 +49,12 @@ formula_in r = record { variables = r.variables; clauses = r.clauses }
 written-leads : (f : Formulated) → is_formula f ≡ true → Leads (formula_rows f) f
 written-leads f h =
     let forms : list_all (is_clause_of f.variables) f.clauses ≡ true = and-right (is_within_limits f.variables f.clauses) _ h in
-    let low : f.variables ≤ 65536 = few-variables f.variables f.clauses (and-left _ _ h) in
+    let low : f.variables ≤ limits.variables = few-variables f.variables f.clauses (and-left _ _ h) in
     subst (λ (rs : List (List (List ℕ))). Leads rs f)
     (written_rows f low forms ∙ ap (λ (rs : List (List (List ℕ))). header_words f.variables (length f.clauses) ∷ rs) (append-nil (map clause_words f.clauses)))
     (whole_leads (rows.rows_of (formula.spelling f)) 0 f (written_is_read f h))
 
--- the formula of a header and of the lines behind it
+-- the formula of a header and of the lines after it
 block_read : List (List (List ℕ)) → Result Formulated BlockFault
 block_read [] = Err BadHeader
 block_read (header ∷ body) = opened header >>= λ b. after_rows body b >>= ended
@@ -73,10 +77,10 @@ block-again r h = block-reads (lines_of r).header (lines_of r).body (formula_in 
 
 -- ---- a revision
 
-revises : (limits : Limits) (o : OpenJob) (r : Posted) → is_posted r ≡ true → length (revisions o.job) < limits.revisions → o.clauses + length r.clauses ≤ 1048576 → o.literals + literals_of r.clauses ≤ 16777216 → Revises limits o (lines_of r) (with_revision o (formula_in r) r.assumptions)
-revises limits o r h room few little =
+revises : (most : Limits) (o : OpenJob) (r : Posted) → is_posted r ≡ true → length (revisions o.job) < most.revisions → o.clauses + length r.clauses ≤ limits.clauses → o.literals + literals_of r.clauses ≤ limits.literals → Revises most o (lines_of r) (with_revision o (formula_in r) r.assumptions)
+revises most o r h room few little =
     let form : is_formula (formula_in r) ≡ true = revision-formula r h in
-    let low : r.variables ≤ 65536 = few-variables r.variables r.clauses (and-left _ _ form) in
+    let low : r.variables ≤ limits.variables = few-variables r.variables r.clauses (and-left _ _ form) in
     let forms : list_all (is_clause_of r.variables) r.clauses ≡ true = and-right (is_within_limits r.variables r.clauses) _ form in
     let assumptions : (rises r.assumptions && is_within r.variables r.assumptions) ≡ true = and-right (is_within_limits r.variables r.clauses && list_all (is_clause_of r.variables) r.clauses) _ h in
     record {
@@ -103,7 +107,7 @@ up_to-again n max h bound = number-again n max (leb-true 1 n (and-left _ _ h)) (
 reasks : (o : OpenJob) (w : Weighed) → is_weight w ≡ true → Reasks o (decimal_word w.priority) (decimal_word w.demand) (with_weight o w)
 reasks o w h = record {
   weight = w;
-  weighs = record { priority_says = up_to-again w.priority 1000 (and-left _ _ h) (omega arith); demand_says = up_to-again w.demand 64 (and-right (is_up_to 1000 w.priority) _ h) (omega arith) };
+  weighs = record { priority_says = up_to-again w.priority limits.priority (and-left _ _ h) (omega arith); demand_says = up_to-again w.demand limits.demand (and-right (is_up_to limits.priority w.priority) _ h) (omega arith) };
   reasked = refl;
 }
 
@@ -114,29 +118,29 @@ abbrev with_steps : ScriptedJob → List Step → ScriptedJob
 with_steps j steps = record { tenant = j.tenant; name = j.name; ask = j.ask; steps = steps }
 
 -- what the lines of steps make of a job
-record Ended (limits : Limits) (o : OpenJob) (steps : List Step) : Type 0 where
+record Ended (most : Limits) (o : OpenJob) (steps : List Step) : Type 0 where
   ended : OpenJob
-  stepped : StepAll limits o (map step_lines_of steps) ended
+  stepped : StepAll most o (map step_lines_of steps) ended
   job : ended.job ≡ with_steps o.job (o.job.steps ++ steps)
 
-step-all : (limits : Limits) (steps : List Step) (o : OpenJob) → list_all is_step steps ≡ true → length (revisions o.job) + length (revisions_in steps) ≤ limits.revisions → o.clauses + clauses_of (revisions_in steps) ≤ 1048576 → o.literals + clause_literals (revisions_in steps) ≤ 16777216 → Ended limits o steps
-step-all limits [] o h room few little = record { ended = o; stepped = refl; job = ap (with_steps o.job) (sym (append-nil o.job.steps)) }
-step-all limits (Revise r ∷ steps) o h room few little =
+step-all : (most : Limits) (steps : List Step) (o : OpenJob) → list_all is_step steps ≡ true → length (revisions o.job) + length (revisions_in steps) ≤ most.revisions → o.clauses + clauses_of (revisions_in steps) ≤ limits.clauses → o.literals + clause_literals (revisions_in steps) ≤ limits.literals → Ended most o steps
+step-all most [] o h room few little = record { ended = o; stepped = refl; job = ap (with_steps o.job) (sym (append-nil o.job.steps)) }
+step-all most (Revise r ∷ steps) o h room few little =
     let rs : List Posted = revisions_in steps in
     let next : OpenJob = with_revision o (formula_in r) r.assumptions in
     let more : clauses_of (r ∷ rs) ≡ length r.clauses + clauses_of rs = sum_by-cons (λ (r : Posted). length r.clauses) r rs in
     let longer : clause_literals (r ∷ rs) ≡ literals_of r.clauses + clause_literals rs = sum_by-cons (λ (r : Posted). literals_of r.clauses) r rs in
     let one : length (revisions next.job) ≡ length (revisions o.job) + 1 = ap length (flat_map-append revisions_at o.job.steps (Revise r ∷ [])) ∙ length-append (revisions o.job) (r ∷ []) in
-    let rest : Ended limits next steps = step-all limits steps next (and-right (is_step (Revise r)) _ h) (omega arith) (omega arith) (omega arith) in
+    let rest : Ended most next steps = step-all most steps next (and-right (is_step (Revise r)) _ h) (omega arith) (omega arith) (omega arith) in
     record {
       ended = rest.ended;
-      stepped = (next, revises limits o r (and-left _ _ h) (omega arith) (omega arith) (omega arith), rest.stepped);
+      stepped = (next, revises most o r (and-left _ _ h) (omega arith) (omega arith) (omega arith), rest.stepped);
       job = rest.job ∙ ap (with_steps o.job) (append_assoc o.job.steps (Revise r ∷ []) steps);
     }
-step-all limits (Reask w ∷ steps) o h room few little =
+step-all most (Reask w ∷ steps) o h room few little =
     let next : OpenJob = with_weight o w in
     let none : length (revisions next.job) ≡ length (revisions o.job) + 0 = ap length (flat_map-append revisions_at o.job.steps (Reask w ∷ [])) ∙ length-append (revisions o.job) [] in
-    let rest : Ended limits next steps = step-all limits steps next (and-right (is_step (Reask w)) _ h) (omega arith) few little in
+    let rest : Ended most next steps = step-all most steps next (and-right (is_step (Reask w)) _ h) (omega arith) few little in
     record {
       ended = rest.ended;
       stepped = (next, reasks o w (and-left _ _ h), rest.stepped);
@@ -149,27 +153,27 @@ abbrev reading : List ScriptedJob → List (List ℕ) → Option (List ℕ) → 
 reading jobs tenants tenant = record { jobs = jobs; tenants = tenants; tenant = tenant; opened = None }
 
 -- a name is one of these, or there may be one more
-named-room : (limits : Limits) (names : List (List ℕ)) (name : List ℕ) → length (with_name names name) ≤ limits.tenants → (list_any (bytes_eq name) names ≡ true) ⊎ (length names < limits.tenants)
-named-room limits names name few = by_test (list_any (bytes_eq name) names) refl few
+named-room : (most : Limits) (names : List (List ℕ)) (name : List ℕ) → length (with_name names name) ≤ most.tenants → (list_any (bytes_eq name) names ≡ true) ⊎ (length names < most.tenants)
+named-room most names name few = by_test (list_any (bytes_eq name) names) refl few
   where
-    by_test : (b : Bool) → list_any (bytes_eq name) names ≡ b → length (cond b names (names ++ name ∷ [])) ≤ limits.tenants → (list_any (bytes_eq name) names ≡ true) ⊎ (length names < limits.tenants)
+    by_test : (b : Bool) → list_any (bytes_eq name) names ≡ b → length (cond b names (names ++ name ∷ [])) ≤ most.tenants → (list_any (bytes_eq name) names ≡ true) ⊎ (length names < most.tenants)
     by_test true q few = inl q
     by_test false q few = let one : length (names ++ name ∷ []) ≡ length names + 1 = length-append names (name ∷ []) in inr (omega arith)
 
 -- the words of a profile say it
-profile-again : (n : ℕ) → 1 ≤ n → n ≤ 2 → SayProfile (profile_words n) n
-profile-again n some low = by_test (n == 1) refl
+profile-again : (p : Profile) → SayProfile (profile_words p) p
+profile-again p = by_test (is_first p) refl
   where
-    by_test : (b : Bool) → (n == 1) ≡ b → SayProfile (cond b [] (decimal_word n ∷ [])) n
-    by_test true e = grind (arith, nat_tests)
-    by_test false e = number-again n 2 some low (omega arith)
+    by_test : (b : Bool) → is_first p ≡ b → SayProfile (cond b [] (decimal_word (number p) ∷ [])) p
+    by_test true e = first-is p e
+    by_test false e = number-again (number p) last_profile (some-number p) (number-bound p) (omega arith)
 
 asked-again : (ask : Terms) → IsAsk ask → Asks (decimal_word ask.priority) (decimal_word ask.demand) (decimal_word ask.slices) (profile_words ask.profile) ask
 asked-again ask is = record {
-  priority_says = number-again ask.priority 1000 is.some_priority is.priority_bound (omega arith);
-  demand_says = number-again ask.demand 64 is.some_demand is.demand_bound (omega arith);
-  slices_says = number-again ask.slices 4096 is.some_slices is.slices_bound (omega arith);
-  profile_say = profile-again ask.profile is.some_profile is.profile_bound;
+  priority_says = number-again ask.priority limits.priority is.some_priority is.priority_bound (omega arith);
+  demand_says = number-again ask.demand limits.demand is.some_demand is.demand_bound (omega arith);
+  slices_says = number-again ask.slices limits.slices is.some_slices is.slices_bound (omega arith);
+  profile_say = profile-again ask.profile;
 }
 
 -- ---- the jobs of a script
@@ -177,16 +181,16 @@ asked-again ask is = record {
 tenants-more : (jobs : List ScriptedJob) (j : ScriptedJob) → tenants_of (jobs ++ j ∷ []) ≡ with_name (tenants_of jobs) j.tenant
 tenants-more jobs j = fold-append (λ (names : List (List ℕ)) (j : ScriptedJob). with_name names j.tenant) [] jobs (j ∷ [])
 
-runs : (limits : Limits) (jobs : List ScriptedJob) (j : ScriptedJob) → MayFollow limits jobs j → Runs limits (reading jobs (with_name (tenants_of jobs) j.tenant) (Some j.tenant)) (job_lines_of j) (reading (jobs ++ j ∷ []) (tenants_of (jobs ++ j ∷ [])) (Some j.tenant))
-runs limits jobs j is =
-    let form : IsJob limits j = is.formed in
-    let some : clauses_of (revisions j) ≤ 1048576 = form.clauses in
-    let short : clause_literals (revisions j) ≤ 16777216 = form.literals in
-    let few : 0 + clauses_of (revisions j) ≤ 1048576 = omega arith in
-    let little : 0 + clause_literals (revisions j) ≤ 16777216 = omega arith in
-    let free : length (revisions j) ≤ limits.revisions = form.few in
-    let room : 0 + length (revisions j) ≤ limits.revisions = omega arith in
-    let e : Ended limits (begun j.tenant j.name j.ask) j.steps = step-all limits j.steps (begun j.tenant j.name j.ask) form.formed room few little in
+runs : (most : Limits) (jobs : List ScriptedJob) (j : ScriptedJob) → MayFollow most jobs j → Runs most (reading jobs (with_name (tenants_of jobs) j.tenant) (Some j.tenant)) (job_lines_of j) (reading (jobs ++ j ∷ []) (tenants_of (jobs ++ j ∷ [])) (Some j.tenant))
+runs most jobs j is =
+    let form : IsJob most j = is.formed in
+    let some : clauses_of (revisions j) ≤ limits.clauses = form.clauses in
+    let short : clause_literals (revisions j) ≤ limits.literals = form.literals in
+    let few : 0 + clauses_of (revisions j) ≤ limits.clauses = omega arith in
+    let little : 0 + clause_literals (revisions j) ≤ limits.literals = omega arith in
+    let free : length (revisions j) ≤ most.revisions = form.few in
+    let room : 0 + length (revisions j) ≤ most.revisions = omega arith in
+    let e : Ended most (begun j.tenant j.name j.ask) j.steps = step-all most j.steps (begun j.tenant j.name j.ask) form.formed room few little in
     record {
       tenant = j.tenant;
       ask = j.ask;
@@ -194,39 +198,39 @@ runs limits jobs j is =
       owned = refl;
       name = form.name;
       asks = asked-again j.ask form.ask;
-      admitted = room-admits limits j.tenant j.name jobs is.new is.room;
+      admitted = room-admits most j.tenant j.name jobs is.new is.room;
       stepped = e.stepped;
       left = ap₂ (λ (names : List (List ℕ)) (x : ScriptedJob). reading (jobs ++ x ∷ []) names (Some j.tenant)) (tenants-more jobs j) (sym e.job);
     }
 
 -- what the parts of jobs make of a script
-record Made (limits : Limits) (jobs : List ScriptedJob) (tenant : Option (List ℕ)) (js : List ScriptedJob) : Type 0 where
+record Made (most : Limits) (jobs : List ScriptedJob) (tenant : Option (List ℕ)) (js : List ScriptedJob) : Type 0 where
   after : Reading
-  made : MakeAll limits (reading jobs (tenants_of jobs) tenant) (parts_of js) after
+  made : MakeAll most (reading jobs (tenants_of jobs) tenant) (parts_of js) after
   all : jobs ++ js ≡ after.jobs
 
-make-all : (limits : Limits) (js jobs : List ScriptedJob) (tenant : Option (List ℕ)) → MayAllFollow limits jobs js → Made limits jobs tenant js
-make-all limits [] jobs tenant h = record { after = reading jobs (tenants_of jobs) tenant; made = refl; all = append-nil jobs }
-make-all limits (j ∷ js) jobs tenant (first, others) =
-    let rest : Made limits (jobs ++ j ∷ []) (Some j.tenant) js = make-all limits js (jobs ++ j ∷ []) (Some j.tenant) others in
-    let few : length (with_name (tenants_of jobs) j.tenant) ≤ limits.tenants = subst (λ (names : List (List ℕ)). length names ≤ limits.tenants) (tenants-more jobs j) first.tenants in
+make-all : (most : Limits) (js jobs : List ScriptedJob) (tenant : Option (List ℕ)) → MayAllFollow most jobs js → Made most jobs tenant js
+make-all most [] jobs tenant h = record { after = reading jobs (tenants_of jobs) tenant; made = refl; all = append-nil jobs }
+make-all most (j ∷ js) jobs tenant (first, others) =
+    let rest : Made most (jobs ++ j ∷ []) (Some j.tenant) js = make-all most js (jobs ++ j ∷ []) (Some j.tenant) others in
+    let few : length (with_name (tenants_of jobs) j.tenant) ≤ most.tenants = subst (λ (names : List (List ℕ)). length names ≤ most.tenants) (tenants-more jobs j) first.tenants in
     record {
       after = rest.after;
-      made = (reading jobs (with_name (tenants_of jobs) j.tenant) (Some j.tenant), record { formed = first.formed.tenant; room = named-room limits (tenants_of jobs) j.tenant few; left = refl }, (reading (jobs ++ j ∷ []) (tenants_of (jobs ++ j ∷ [])) (Some j.tenant), runs limits jobs j first, rest.made));
+      made = (reading jobs (with_name (tenants_of jobs) j.tenant) (Some j.tenant), record { formed = first.formed.tenant; room = named-room most (tenants_of jobs) j.tenant few; left = refl }, (reading (jobs ++ j ∷ []) (tenants_of (jobs ++ j ∷ [])) (Some j.tenant), runs most jobs j first, rest.made));
       all = sym (append_assoc jobs (j ∷ []) js) ∙ rest.all;
     }
 
 pub written-spelled : WrittenIsSpelled
 unfolding spelling
-written-spelled limits s h =
-    let m : Made limits [] None s.jobs = make-all limits s.jobs [] None h in
+written-spelled most s h =
+    let m : Made most [] None s.jobs = make-all most s.jobs [] None h in
     record {
       parts = parts_of s.jobs;
       after = m.after;
-      lines = text-rows (rows_of s) (jobs-stand limits [] s.jobs h) ∙ sym (parts-lines s.jobs);
+      lines = text-rows (rows_of s) (jobs-stand most [] s.jobs h) ∙ sym (parts-lines s.jobs);
       made = m.made;
       jobs = m.all;
     }
 
 pub written-read : WrittenIsRead
-written-read limits s h = spelled-read limits (spelling s) s (written-spelled limits s h)
+written-read most s h = spelled-read most (spelling s) s (written-spelled most s h)

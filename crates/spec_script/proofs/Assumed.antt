@@ -2,6 +2,7 @@
 use Rattle.std.proofs.Common.{◌≡◌, ℕ, zero, suc, ◌/◌, ◌≤◌, ◌<◌, Bool, true, false, cond, ◌==◌, ◌&&◌, nat_lt, nat_le, List, [], ◌∷◌, ◌++◌, map, ℤ, pos, negsuc, Some, None, Result, Ok, refl, sym, ap, ◌∙◌, arith, append_assoc, append-nil}
 use Rattle.std.proofs.lemmas.Bool.{leb-true, ltb-true}
 use Rattle.std.proofs.lemmas.Bool.Decides.{nat_tests}
+use Rattle.mal_base.specs.Limits.{limits}
 use Rattle.mal_base.specs.Clauses.{rises, clash, clash_after}
 use Rattle.mal_base.specs.Formulas.{is_within}
 use Rattle.mal_base.proofs.Sorting.{and-left, and-right, climbs-from_rises}
@@ -23,7 +24,7 @@ use Rattle.spec_script.proofs.Sorted.{sorted-unique}
 abbrev lits_read : List ℕ → Result (List ℕ) LineFault
 lits_read lits = Ok lits
 
--- a number that stands for a literal is behind those before it
+-- a number that stands for a literal is after those before it
 literal-behind : (lits : List ℕ) (code : ℕ) (z : ℤ) (words : List NumberWord) → 2 ≤ code → code_of z ≡ code → literals_from lits false (Number z ∷ words) ≡ literals_from (lits ++ code ∷ []) false words
 literal-behind lits code (pos zero) words low e = let none : 0 ≡ code = e in absurd (omega arith)
 literal-behind lits code (pos (suc n)) words low e = ap (λ (l : ℕ). literals_from (lits ++ l ∷ []) false words) e
@@ -65,5 +66,5 @@ pub assumptions_are_read : AssumptionsAreRead
 assumptions_are_read v words lits = (assumes-read v words lits, read-assumes v words lits)
 
 -- assumptions in form are said by the words that they are written as
-pub assumptions-again : (v : ℕ) (lits : List ℕ) → v ≤ 65536 → rises lits ≡ true → is_within v lits ≡ true → Assumes v (closed_words lits) lits
+pub assumptions-again : (v : ℕ) (lits : List ℕ) → v ≤ limits.variables → rises lits ≡ true → is_within v lits ≡ true → Assumes v (closed_words lits) lits
 assumptions-again v lits low up h = record { lits = lits; closed = clause_again v lits low h; within = h; once = (up, record { there = λ x k. k; back = λ x k. k }) }

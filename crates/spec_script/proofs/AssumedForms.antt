@@ -15,7 +15,7 @@ use Rattle.spec_script.specs.Assumptions.{closed, literals_from, consistent, ass
 use Rattle.spec_script.specs.Grammar.{Assumes}
 use Rattle.spec_script.proofs.Inversions.{bind_ok, ok_is}
 
--- what stands behind the 0 of assumptions that are read
+-- what stands after the 0 of assumptions that are read
 record Closes (lits : List ℕ) (above : Bool) (words : List NumberWord) (raw : List ℕ) : Type 0 where
   nothing : words ≡ []
   kept : lits ≡ raw
@@ -26,7 +26,7 @@ closes lits true [] raw e = absurd (cc)
 closes lits false [] raw e = record { nothing = refl; kept = ok_is lits raw e; none_above = refl }
 closes lits above (w ∷ ws) raw e = absurd (cc)
 
--- the literals that words say behind those before
+-- the literals that words say after those before
 record Behind (v : ℕ) (words : List (List ℕ)) (lits : List ℕ) (above : Bool) (raw : List ℕ) : Type 0 where
   more : List ℕ
   all : lits ++ more ≡ raw

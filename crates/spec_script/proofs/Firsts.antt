@@ -1,9 +1,9 @@
--- Nothing behind a faulty line of a script counts.
+-- Nothing after a faulty line of a script counts.
 use Rattle.std.proofs.Common.{◌≡◌, ◌⊎◌, ℕ, suc, ◌≤◌, max, List, Result, Ok, Err, refl, ap, inl, inr, arith}
 use Rattle.mal_base.specs.declared.line_fault.LineFault.{LineFault}
 use Rattle.spec_dimacs.specs.Reading.{◌>>=◌}
 use Rattle.spec_dimacs.proofs.FirstLine.{GoesByLines, Leads, Stops, same-line, first-fault}
-use Rattle.spec_script.specs.Limits.{Limits}
+use Rattle.mal_base.specs.declared.limits.Limits.{Limits}
 use Rattle.spec_script.specs.Script.{Scripted}
 use Rattle.spec_script.specs.Reading.{Reading, unread, after_row, at_end, on_line, read_rows}
 use Rattle.spec_script.specs.Laws.{FaultIsFirst}

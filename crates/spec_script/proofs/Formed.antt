@@ -6,6 +6,7 @@ use Rattle.std.proofs.lemmas.Bool.{le-leb}
 use Rattle.std.proofs.lemmas.List.Folds.{list_all-append}
 use Rattle.std.proofs.lemmas.List.Sums.{sum_by_push}
 use Rattle.std.proofs.lemmas.Grind.{flat_map-append}
+use Rattle.mal_base.specs.Limits.{limits}
 use Rattle.mal_base.specs.Asks.{Terms, IsAsk, Weighed}
 use Rattle.mal_base.specs.Formulas.{Formulated, is_formula, is_within, literals_of}
 use Rattle.mal_base.specs.Clauses.{rises}
@@ -14,14 +15,14 @@ use Rattle.mal_base.proofs.Sorting.{and-left, and-right, and-both}
 use Rattle.mal_revision.specs.Posted.{Posted, is_posted}
 use Rattle.spec_dimacs.specs.Rows.{is_passed}
 use Rattle.spec_dimacs.proofs.Led.{led_formula}
-use Rattle.spec_script.specs.Limits.{Limits}
+use Rattle.mal_base.specs.declared.limits.Limits.{Limits}
 use Rattle.spec_script.specs.Script.{ScriptedJob, revisions, revisions_at, revisions_in}
 use Rattle.spec_script.specs.declared.step.Step.TheVariants.{Revise, Reask}
 use Rattle.spec_script.specs.Reading.{OpenJob, Reading, unread, named, is_job, has_room, begun, with_revision, with_weight}
 use Rattle.spec_script.specs.Formed.{with_name, tenants_of, clauses_of, clause_literals, is_up_to, is_weight, is_step, IsJob, MayFollow, MayAllFollow}
 use Rattle.spec_script.specs.Grammar.{StepLines, Revision, Weight, JobLines, Part, Tenant, Job, Asks, Weighs, SaysUpTo, HasRoomFor, Names, is_inside, formula_of, StepAll, Runs, MakeAll}
 use Rattle.spec_script.specs.Laws.{SpelledIsScript, SpelledAgain}
-use Rattle.spec_script.proofs.Words.{admits-room, profile-read}
+use Rattle.spec_script.proofs.Words.{admits-room, asked-formed}
 use Rattle.spec_script.proofs.Parsing.{not_true}
 use Rattle.spec_script.proofs.AssumedForms.{assumed-formed}
 use Rattle.spec_script.proofs.Named.{AreNamed, tenants-few, named-last, named-more, all-named}
@@ -48,23 +49,23 @@ revision-formed f lits form formed = and-both _ _ form formed
 -- ---- the steps of a job
 
 -- a job of which some steps are read
-record Fits (limits : Limits) (tenant name : List ℕ) (ask : Terms) (o : OpenJob) : Type 0 where
+record Fits (most : Limits) (tenant name : List ℕ) (ask : Terms) (o : OpenJob) : Type 0 where
   tenant_is : o.job.tenant ≡ tenant
   name_is : o.job.name ≡ name
   ask_is : o.job.ask ≡ ask
-  few : length (revisions o.job) ≤ limits.revisions
+  few : length (revisions o.job) ≤ most.revisions
   formed : list_all is_step o.job.steps ≡ true
   clauses : o.clauses ≡ clauses_of (revisions o.job)
   literals : o.literals ≡ clause_literals (revisions o.job)
-  few_clauses : o.clauses ≤ 1048576
-  few_literals : o.literals ≤ 16777216
+  few_clauses : o.clauses ≤ limits.clauses
+  few_literals : o.literals ≤ limits.literals
 
--- the revisions of a job with one more behind its steps
+-- the revisions of a job with one more after its steps
 with-one : (j : ScriptedJob) (r : Posted) → revisions_in (j.steps ++ Revise r ∷ []) ≡ revisions j ++ r ∷ []
 with-one j r = flat_map-append revisions_at j.steps (Revise r ∷ [])
 
-fits-more : (limits : Limits) (tenant name : List ℕ) (ask : Terms) (o : OpenJob) (f : Formulated) (lits : List ℕ) → Fits limits tenant name ask o → length (revisions o.job) < limits.revisions → is_posted (posted f lits) ≡ true → HasRoomFor o f → Fits limits tenant name ask (with_revision o f lits)
-fits-more limits tenant name ask o f lits is room form low = record {
+fits-more : (most : Limits) (tenant name : List ℕ) (ask : Terms) (o : OpenJob) (f : Formulated) (lits : List ℕ) → Fits most tenant name ask o → length (revisions o.job) < most.revisions → is_posted (posted f lits) ≡ true → HasRoomFor o f → Fits most tenant name ask (with_revision o f lits)
+fits-more most tenant name ask o f lits is room form low = record {
   tenant_is = is.tenant_is;
   name_is = is.name_is;
   ask_is = is.ask_is;
@@ -76,7 +77,7 @@ fits-more limits tenant name ask o f lits is room form low = record {
   few_literals = low.literals;
 }
 
--- the revisions of a job with a change of its ask behind its steps
+-- the revisions of a job with a change of its ask after its steps
 with-none : (j : ScriptedJob) (w : Weighed) → revisions_in (j.steps ++ Reask w ∷ []) ≡ revisions j
 with-none j w = flat_map-append revisions_at j.steps (Reask w ∷ []) ∙ append-nil (revisions j)
 
@@ -84,14 +85,14 @@ says-up_to : (max : ℕ) (word : List ℕ) (n : ℕ) → SaysUpTo max word n →
 says-up_to max word n is = and-both _ _ (le-leb 1 n is.1) (le-leb n max is.2)
 
 weight-formed : (p d : List ℕ) (w : Weighed) → Weighs p d w → is_weight w ≡ true
-weight-formed p d w is = and-both _ _ (says-up_to 1000 p w.priority is.priority_says) (says-up_to 64 d w.demand is.demand_says)
+weight-formed p d w is = and-both _ _ (says-up_to limits.priority p w.priority is.priority_says) (says-up_to limits.demand d w.demand is.demand_says)
 
-fits-weight : (limits : Limits) (tenant name : List ℕ) (ask : Terms) (o : OpenJob) (w : Weighed) → Fits limits tenant name ask o → is_weight w ≡ true → Fits limits tenant name ask (with_weight o w)
-fits-weight limits tenant name ask o w is form = record {
+fits-weight : (most : Limits) (tenant name : List ℕ) (ask : Terms) (o : OpenJob) (w : Weighed) → Fits most tenant name ask o → is_weight w ≡ true → Fits most tenant name ask (with_weight o w)
+fits-weight most tenant name ask o w is form = record {
   tenant_is = is.tenant_is;
   name_is = is.name_is;
   ask_is = is.ask_is;
-  few = subst (λ (rs : List Posted). length rs ≤ limits.revisions) (sym (with-none o.job w)) is.few;
+  few = subst (λ (rs : List Posted). length rs ≤ most.revisions) (sym (with-none o.job w)) is.few;
   formed = list_all-append is_step o.job.steps (Reask w ∷ []) ∙ and-both _ _ is.formed (and-both _ _ form refl);
   clauses = is.clauses ∙ sym (ap clauses_of (with-none o.job w));
   literals = is.literals ∙ sym (ap clause_literals (with-none o.job w));
@@ -99,30 +100,16 @@ fits-weight limits tenant name ask o w is form = record {
   few_literals = is.few_literals;
 }
 
-all-fit : (limits : Limits) (tenant name : List ℕ) (ask : Terms) (steps : List StepLines) (o after : OpenJob) → Fits limits tenant name ask o → StepAll limits o steps after → Fits limits tenant name ask after
-all-fit limits tenant name ask [] o after is same = subst (Fits limits tenant name ask) same is
-all-fit limits tenant name ask (Revision r ∷ steps) o after is (next, one, others) =
+all-fit : (most : Limits) (tenant name : List ℕ) (ask : Terms) (steps : List StepLines) (o after : OpenJob) → Fits most tenant name ask o → StepAll most o steps after → Fits most tenant name ask after
+all-fit most tenant name ask [] o after is same = subst (Fits most tenant name ask) same is
+all-fit most tenant name ask (Revision r ∷ steps) o after is (next, one, others) =
     let form : is_formula one.formula ≡ true = block-formed r.header r.body one.formula one.inside one.spelled in
     let revision : is_posted (posted one.formula one.assumptions) ≡ true = revision-formed one.formula one.assumptions form (assumed-formed one.formula.variables r.assumed one.assumptions one.assumed) in
-    let more : Fits limits tenant name ask (with_revision o one.formula one.assumptions) = fits-more limits tenant name ask o one.formula one.assumptions is one.room revision one.fits in
-    all-fit limits tenant name ask steps next after (subst (Fits limits tenant name ask) (sym one.revised) more) others
-all-fit limits tenant name ask (Weight p d ∷ steps) o after is (next, one, others) =
-    let more : Fits limits tenant name ask (with_weight o one.weight) = fits-weight limits tenant name ask o one.weight is (weight-formed p d one.weight one.weighs) in
-    all-fit limits tenant name ask steps next after (subst (Fits limits tenant name ask) (sym one.reasked) more) others
-
--- ---- the ask of a job
-
-asked-formed : (p d k : List ℕ) (q : List (List ℕ)) (ask : Terms) → Asks p d k q ask → IsAsk ask
-asked-formed p d k q ask is = record {
-  some_priority = is.priority_says.1;
-  priority_bound = is.priority_says.2;
-  some_demand = is.demand_says.1;
-  demand_bound = is.demand_says.2;
-  some_slices = is.slices_says.1;
-  slices_bound = is.slices_says.2;
-  some_profile = (profile-read q ask.profile is.profile_say).1;
-  profile_bound = (profile-read q ask.profile is.profile_say).2;
-}
+    let more : Fits most tenant name ask (with_revision o one.formula one.assumptions) = fits-more most tenant name ask o one.formula one.assumptions is one.room revision one.fits in
+    all-fit most tenant name ask steps next after (subst (Fits most tenant name ask) (sym one.revised) more) others
+all-fit most tenant name ask (Weight p d ∷ steps) o after is (next, one, others) =
+    let more : Fits most tenant name ask (with_weight o one.weight) = fits-weight most tenant name ask o one.weight is (weight-formed p d one.weight one.weighs) in
+    all-fit most tenant name ask steps next after (subst (Fits most tenant name ask) (sym one.reasked) more) others
 
 -- ---- the jobs of a script
 
@@ -132,9 +119,9 @@ Owned None names = Unit {0}
 Owned (Some tenant) names = (is_name tenant ≡ true) × (list_any (bytes_eq tenant) names ≡ true)
 
 -- a script of which some lines are read
-record Stood (limits : Limits) (s : Reading) : Type 0 where
-  formed : MayAllFollow limits [] s.jobs
-  few : length s.tenants ≤ limits.tenants
+record Stood (most : Limits) (s : Reading) : Type 0 where
+  formed : MayAllFollow most [] s.jobs
+  few : length s.tenants ≤ most.tenants
   owners : AreNamed s.tenants s.jobs
   last : Owned s.tenant s.tenants
 
@@ -153,57 +140,57 @@ owners-with names name jobs is = by_test (list_any (bytes_eq name) names)
     by_test true = is
     by_test false = named-more names name jobs is
 
-few-with : (limits : Limits) (names : List (List ℕ)) (name : List ℕ) → length names ≤ limits.tenants → (list_any (bytes_eq name) names ≡ true) ⊎ (length names < limits.tenants) → length (with_name names name) ≤ limits.tenants
-few-with limits names name few room = by_test (list_any (bytes_eq name) names) refl room
+few-with : (most : Limits) (names : List (List ℕ)) (name : List ℕ) → length names ≤ most.tenants → (list_any (bytes_eq name) names ≡ true) ⊎ (length names < most.tenants) → length (with_name names name) ≤ most.tenants
+few-with most names name few room = by_test (list_any (bytes_eq name) names) refl room
   where
-    by_test : (a : Bool) → list_any (bytes_eq name) names ≡ a → (list_any (bytes_eq name) names ≡ true) ⊎ (length names < limits.tenants) → length (cond a names (names ++ name ∷ [])) ≤ limits.tenants
+    by_test : (a : Bool) → list_any (bytes_eq name) names ≡ a → (list_any (bytes_eq name) names ≡ true) ⊎ (length names < most.tenants) → length (cond a names (names ++ name ∷ [])) ≤ most.tenants
     by_test true q room = few
     by_test false q (inl h) = absurd (cc)
     by_test false q (inr low) = let one : length (names ++ name ∷ []) ≡ length names + 1 = length-append names (name ∷ []) in omega arith
 
-named-stands : (limits : Limits) (name : List ℕ) (s next : Reading) → Stood limits s → Names limits s name next → Stood limits next
-named-stands limits name s next is named =
-    subst (Stood limits) (sym named.left) (record { formed = is.formed; few = few-with limits s.tenants name is.few named.room; owners = owners-with s.tenants name s.jobs is.owners; last = (named.formed, among-with s.tenants name) })
+named-stands : (most : Limits) (name : List ℕ) (s next : Reading) → Stood most s → Names most s name next → Stood most next
+named-stands most name s next is named =
+    subst (Stood most) (sym named.left) (record { formed = is.formed; few = few-with most s.tenants name is.few named.room; owners = owners-with s.tenants name s.jobs is.owners; last = (named.formed, among-with s.tenants name) })
 
-follows-last : (limits : Limits) (jobs js : List ScriptedJob) (j : ScriptedJob) → MayAllFollow limits jobs js → MayFollow limits (jobs ++ js) j → MayAllFollow limits jobs (js ++ j ∷ [])
-follows-last limits jobs [] j h k = (subst (λ (xs : List ScriptedJob). MayFollow limits xs j) (append-nil jobs) k, tt)
-follows-last limits jobs (i ∷ js) j h k = (h.0, follows-last limits (jobs ++ i ∷ []) js j h.1 (subst (λ (xs : List ScriptedJob). MayFollow limits xs j) (sym (append_assoc jobs (i ∷ []) js)) k))
+follows-last : (most : Limits) (jobs js : List ScriptedJob) (j : ScriptedJob) → MayAllFollow most jobs js → MayFollow most (jobs ++ js) j → MayAllFollow most jobs (js ++ j ∷ [])
+follows-last most jobs [] j h k = (subst (λ (xs : List ScriptedJob). MayFollow most xs j) (append-nil jobs) k, tt)
+follows-last most jobs (i ∷ js) j h k = (h.0, follows-last most (jobs ++ i ∷ []) js j h.1 (subst (λ (xs : List ScriptedJob). MayFollow most xs j) (sym (append_assoc jobs (i ∷ []) js)) k))
 
-job-stands : (limits : Limits) (s : Reading) (j : JobLines) (next : Reading) → Stood limits s → Runs limits s j next → Stood limits next
-job-stands limits s j next is run =
-    let start : Fits limits run.tenant j.name run.ask (begun run.tenant j.name run.ask) = record { tenant_is = refl; name_is = refl; ask_is = refl; few = omega arith; formed = refl; clauses = refl; literals = refl; few_clauses = omega arith; few_literals = omega arith } in
-    let fits : Fits limits run.tenant j.name run.ask run.ended = all-fit limits run.tenant j.name run.ask j.steps (begun run.tenant j.name run.ask) run.ended start run.stepped in
+job-stands : (most : Limits) (s : Reading) (j : JobLines) (next : Reading) → Stood most s → Runs most s j next → Stood most next
+job-stands most s j next is run =
+    let start : Fits most run.tenant j.name run.ask (begun run.tenant j.name run.ask) = record { tenant_is = refl; name_is = refl; ask_is = refl; few = omega arith; formed = refl; clauses = refl; literals = refl; few_clauses = omega arith; few_literals = omega arith } in
+    let fits : Fits most run.tenant j.name run.ask run.ended = all-fit most run.tenant j.name run.ask j.steps (begun run.tenant j.name run.ask) run.ended start run.stepped in
     let owner : (is_name run.tenant ≡ true) × (list_any (bytes_eq run.tenant) s.tenants ≡ true) = subst (λ (t : Option (List ℕ)). Owned t s.tenants) run.owned is.last in
     let own : list_any (bytes_eq run.ended.job.tenant) s.tenants ≡ true = ap (λ (t : List ℕ). list_any (bytes_eq t) s.tenants) fits.tenant_is ∙ owner.1 in
     let owners : AreNamed s.tenants (s.jobs ++ run.ended.job ∷ []) = all-named s.tenants s.jobs run.ended.job is.owners own in
     let all : length (tenants_of (s.jobs ++ run.ended.job ∷ [])) ≤ length s.tenants = tenants-few (s.jobs ++ run.ended.job ∷ []) s.tenants owners in
-    let bound : length s.tenants ≤ limits.tenants = is.few in
-    let form : IsJob limits run.ended.job = record {
+    let bound : length s.tenants ≤ most.tenants = is.few in
+    let form : IsJob most run.ended.job = record {
       tenant = ap is_name fits.tenant_is ∙ owner.0;
       name = ap is_name fits.name_is ∙ run.name;
       ask = subst IsAsk (sym fits.ask_is) (asked-formed j.priority j.demand j.slices j.profile run.ask run.asks);
       few = fits.few;
       formed = fits.formed;
-      clauses = subst (λ (n : ℕ). n ≤ 1048576) fits.clauses fits.few_clauses;
-      literals = subst (λ (n : ℕ). n ≤ 16777216) fits.literals fits.few_literals;
+      clauses = subst (λ (n : ℕ). n ≤ limits.clauses) fits.clauses fits.few_clauses;
+      literals = subst (λ (n : ℕ). n ≤ limits.literals) fits.literals fits.few_literals;
     } in
-    let follows : MayFollow limits s.jobs run.ended.job = record {
+    let follows : MayFollow most s.jobs run.ended.job = record {
       formed = form;
       new = ap₂ (λ (t n : List ℕ). list_any (is_job t n) s.jobs) fits.tenant_is fits.name_is ∙ run.admitted.new;
-      room = ap (λ (t : List ℕ). has_room limits t s.jobs) fits.tenant_is ∙ admits-room limits run.tenant j.name s.jobs run.admitted;
+      room = ap (λ (t : List ℕ). has_room most t s.jobs) fits.tenant_is ∙ admits-room most run.tenant j.name s.jobs run.admitted;
       tenants = omega arith;
     } in
-    subst (Stood limits) (sym run.left) (record { formed = follows-last limits [] s.jobs run.ended.job is.formed follows; few = is.few; owners = owners; last = is.last })
+    subst (Stood most) (sym run.left) (record { formed = follows-last most [] s.jobs run.ended.job is.formed follows; few = is.few; owners = owners; last = is.last })
 
-all-stand : (limits : Limits) (parts : List Part) (s after : Reading) → Stood limits s → MakeAll limits s parts after → Stood limits after
-all-stand limits [] s after is same = subst (Stood limits) same is
-all-stand limits (Tenant name ∷ parts) s after is (next, h, others) = all-stand limits parts next after (named-stands limits name s next is h) others
-all-stand limits (Job j ∷ parts) s after is (next, run, others) = all-stand limits parts next after (job-stands limits s j next is run) others
+all-stand : (most : Limits) (parts : List Part) (s after : Reading) → Stood most s → MakeAll most s parts after → Stood most after
+all-stand most [] s after is same = subst (Stood most) same is
+all-stand most (Tenant name ∷ parts) s after is (next, h, others) = all-stand most parts next after (named-stands most name s next is h) others
+all-stand most (Job j ∷ parts) s after is (next, run, others) = all-stand most parts next after (job-stands most s j next is run) others
 
 pub spelled-script : SpelledIsScript
-spelled-script limits text s is =
-    let stood : Stood limits is.after = all-stand limits is.parts unread is.after (record { formed = tt; few = omega arith; owners = tt; last = tt }) is.made in
-    subst (λ (jobs : List ScriptedJob). MayAllFollow limits [] jobs) (sym is.jobs) stood.formed
+spelled-script most text s is =
+    let stood : Stood most is.after = all-stand most is.parts unread is.after (record { formed = tt; few = omega arith; owners = tt; last = tt }) is.made in
+    subst (λ (jobs : List ScriptedJob). MayAllFollow most [] jobs) (sym is.jobs) stood.formed
 
 pub spelled-again : SpelledAgain
-spelled-again limits text s is = written-read limits s (spelled-script limits text s is)
+spelled-again most text s is = written-read most s (spelled-script most text s is)

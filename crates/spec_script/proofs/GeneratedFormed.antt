@@ -6,6 +6,7 @@ use Rattle.std.proofs.lemmas.Fmt.{length-decimal-le}
 use Rattle.std.proofs.lemmas.List.Edits.{length-remove}
 use Rattle.std.proofs.lemmas.List.Folds.{list_all-append}
 use Rattle.std.proofs.lemmas.List.Sums.{sum_by-cons}
+use Rattle.mal_base.specs.Limits.{limits}
 use Rattle.mal_base.specs.Clauses.{rises, IsTautology, HaveSame}
 use Rattle.mal_base.specs.Formulas.{is_within, is_clause_of, size_of, literals_of}
 use Rattle.mal_base.specs.Literals.{literal}
@@ -17,10 +18,10 @@ use Rattle.spec_dimacs.proofs.Merging.{clause_of-made, clause_of-unique, clause_
 use Rattle.spec_seq.specs.Draws.{next, drawn}
 use Rattle.spec_text.specs.Numbers.{is_digit}
 use Rattle.spec_text.proofs.Numerals.{is_numeral-decimal}
-use Rattle.spec_script.specs.Generated.{pick, variables, signed, literals_from, after_literals, clause_from, after_clause, clauses_from, revision_from}
+use Rattle.spec_script.specs.Generated.{most_generated, pick, variables, signed, literals_from, after_literals, clause_from, after_clause, clauses_from, revision_from}
 use Rattle.spec_script.proofs.GeneratedSteps.{clauses-none, clauses-suc}
 
--- a letter with a number behind it is a name
+-- a letter with a number after it is a name
 or-middle : (p q r : Bool) → q ≡ true → (p || q || r) ≡ true
 or-middle true q r e = refl
 or-middle false true r e = refl
@@ -43,7 +44,7 @@ numbered-name letter n named small =
 pub tenant-formed : (n : ℕ) → is_name (116 ∷ decimal (n % 4 + 1)) ≡ true
 tenant-formed n = numbered-name 116 (n % 4 + 1) refl (omega arith)
 
-pub name-formed : (n : ℕ) → n ≤ 256 → is_name (106 ∷ decimal n) ≡ true
+pub name-formed : (n : ℕ) → n ≤ most_generated → is_name (106 ∷ decimal n) ≡ true
 name-formed n h = numbered-name 106 n refl (omega arith)
 
 -- a clause is made of literals of the variables
@@ -163,7 +164,7 @@ pub revision-formed : (x : ℕ) → is_posted (revision_from x) ≡ true
 revision-formed x =
     let many = revision-length x in
     let most = revision-literals x in
-    and-both _ _ (and-both _ _ (and-both _ _ (and-both _ _ refl (le-leb (length (clauses_from 213 x)) 1048576 (omega arith))) (le-leb (literals_of (clauses_from 213 x)) 16777216 (omega arith))) (clauses-formed 213 x)) refl
+    and-both _ _ (and-both _ _ (and-both _ _ (and-both _ _ refl (le-leb (length (clauses_from 213 x)) limits.clauses (omega arith))) (le-leb (literals_of (clauses_from 213 x)) limits.literals (omega arith))) (clauses-formed 213 x)) refl
 
 -- the clause that is made of the literals
 made : (o : Option (List ℕ)) (lits : List ℕ) → MatchOption o (IsTautology lits) (λ c. rises c ≡ true) → MatchOption o (IsTautology lits) (λ c. HaveSame lits c) → IsClauseOf lits o

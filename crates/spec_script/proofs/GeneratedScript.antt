@@ -9,11 +9,11 @@ use Rattle.std.proofs.lemmas.Slice.Eq.{bytes_eq-Decides}
 use Rattle.mal_base.specs.Asks.{IsAsk}
 use Rattle.mal_base.proofs.Sorting.{and-both}
 use Rattle.spec_script.specs.Formed.{with_name, tenants_of, IsJob, MayFollow, MayAllFollow}
-use Rattle.spec_script.specs.Limits.{served}
+use Rattle.mal_base.specs.Limits.{limits}
 use Rattle.spec_script.specs.Reading.{is_of, is_job}
 use Rattle.spec_script.specs.Script.{ScriptedJob}
 use Rattle.spec_seq.specs.Draws.{next}
-use Rattle.spec_script.specs.Generated.{pick, tenant_of, name_of, ask_from, after_revision, job_from, jobs_from}
+use Rattle.spec_script.specs.Generated.{most_generated, pick, tenant_of, name_of, ask_from, after_revision, job_from, jobs_from}
 use Rattle.spec_script.specs.GeneratedLaws.{GeneratedIsScript}
 use Rattle.spec_script.proofs.GeneratedFormed.{tenant-formed, name-formed, revision-formed, revision-length, revision-literals, pick-below}
 
@@ -76,7 +76,7 @@ same x = (bytes_eq-Decides x x).1 refl
 tail-is : (x y : ℕ) (xs ys : List ℕ) → x ∷ xs ≡ y ∷ ys → xs ≡ ys
 tail-is x y xs ys e = cc
 
-names-differ : (i m : ℕ) → i ≤ 256 → m < i → bytes_eq (name_of i) (name_of m) ≡ false
+names-differ : (i m : ℕ) → i ≤ most_generated → m < i → bytes_eq (name_of i) (name_of m) ≡ false
 names-differ i m few less = differ (name_of i) (name_of m) (λ e. let equal : i ≡ m = decimal_injective i m (omega arith) (omega arith) (tail-is 106 106 (decimal i) (decimal m) e) in absurd (omega arith))
 
 no-right : (a b : Bool) → b ≡ false → (a && b) ≡ false
@@ -87,7 +87,7 @@ no-either : (a b : Bool) → a ≡ false → b ≡ false → (a || b) ≡ false
 no-either true b e f = cc
 no-either false b e f = f
 
-fresh : (i : ℕ) (t : List ℕ) (prev : List ScriptedJob) → i ≤ 256 → AllByRecursion (λ j. (m : ℕ) × (m < i) × (j.name ≡ name_of m)) prev → list_any (is_job t (name_of i)) prev ≡ false
+fresh : (i : ℕ) (t : List ℕ) (prev : List ScriptedJob) → i ≤ most_generated → AllByRecursion (λ j. (m : ℕ) × (m < i) × (j.name ≡ name_of m)) prev → list_any (is_job t (name_of i)) prev ≡ false
 fresh i t [] few names = refl
 fresh i t (j ∷ js) few names =
     no-either (is_job t (name_of i) j) (list_any (is_job t (name_of i)) js)
@@ -149,7 +149,7 @@ prior-next i x prev some p = record {
 ask-formed : (x : ℕ) → IsAsk (ask_from x)
 ask-formed x = let small : pick 8 x < 8 = pick-below 8 x (omega arith) in search (rules, arith)
 
-job-formed : (i x : ℕ) → i ≤ 256 → IsJob served (job_from i x)
+job-formed : (i x : ℕ) → i ≤ most_generated → IsJob limits (job_from i x)
 job-formed i x few = record {
   tenant = tenant-formed (i - 1);
   name = name-formed i few;
@@ -160,23 +160,23 @@ job-formed i x few = record {
   literals = let most = revision-literals (next x) in omega arith;
 }
 
-share-room : (i n : ℕ) → 1 ≤ i → i ≤ 256 → n ≡ (i + 2 - (i - 1) % 4) / 4 → n < 64
+share-room : (i n : ℕ) → 1 ≤ i → i ≤ most_generated → n ≡ (i + 2 - (i - 1) % 4) / 4 → n < limits.jobs_of_tenant
 share-room i n some few e = omega arith
 
-follows : (i x : ℕ) (prev : List ScriptedJob) → 1 ≤ i → i ≤ 256 → Prior i prev → MayFollow served prev (job_from i x)
+follows : (i x : ℕ) (prev : List ScriptedJob) → 1 ≤ i → i ≤ most_generated → Prior i prev → MayFollow limits prev (job_from i x)
 follows i x prev some few p = record {
   formed = job-formed i x few;
   new = fresh i (tenant_of i) prev few p.names;
-  room = let count = p.count in and-both _ _ (lt-ltb _ 64 (share-room i _ some few (p.shares ((i - 1) % 4) (omega arith)))) (lt-ltb (length prev) 4096 (omega arith));
-  tenants = let four = firsts-few (i + 1 - 1) in subst (λ (names : List (List ℕ)). length names ≤ 64) (sym (tenants-next i x prev some p.tenants)) (omega arith);
+  room = let count = p.count in and-both _ _ (lt-ltb _ limits.jobs_of_tenant (share-room i _ some few (p.shares ((i - 1) % 4) (omega arith)))) (lt-ltb (length prev) limits.jobs (omega arith));
+  tenants = let four = firsts-few (i + 1 - 1) in subst (λ (names : List (List ℕ)). length names ≤ limits.tenants) (sym (tenants-next i x prev some p.tenants)) (omega arith);
 }
 
-all-follow : (k i x : ℕ) (prev : List ScriptedJob) → 1 ≤ i → i + k ≤ 257 → Prior i prev → MayAllFollow served prev (jobs_from k i x)
+all-follow : (k i x : ℕ) (prev : List ScriptedJob) → 1 ≤ i → i + k ≤ most_generated + 1 → Prior i prev → MayAllFollow limits prev (jobs_from k i x)
 all-follow zero i x prev some few p = tt
 all-follow (suc k) i x prev some few p = (
   follows i x prev some (omega arith) p,
   let more : i + 1 ≡ suc i = omega arith in
-      subst (λ (n : ℕ). MayAllFollow served (prev ++ job_from i x ∷ []) (jobs_from k n (after_revision (next x)))) more (all-follow k (i + 1) (after_revision (next x)) (prev ++ job_from i x ∷ []) (omega arith) (omega arith) (prior-next i x prev some p)),
+      subst (λ (n : ℕ). MayAllFollow limits (prev ++ job_from i x ∷ []) (jobs_from k n (after_revision (next x)))) more (all-follow k (i + 1) (after_revision (next x)) (prev ++ job_from i x ∷ []) (omega arith) (omega arith) (prior-next i x prev some p)),
 )
 
 none-prior : Prior 1 []

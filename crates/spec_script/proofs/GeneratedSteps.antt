@@ -25,7 +25,7 @@ after-suc k x = refl
 one-less : (n k : ℕ) → k < n → n - k ≡ suc (n - (k + 1))
 one-less n k l = omega arith
 
--- of n clauses k are made: the next one, and those behind it
+-- of n clauses k are made: the next one, and those after it
 pub next-clause : (n k x : ℕ) → k < n → clauses_from (n - k) x ≡ clause_from x ∷ clauses_from (n - (k + 1)) (after_clause x)
 next-clause n k x l = rw (one-less n k l) (clauses-suc (n - (k + 1)) x)
 
@@ -47,7 +47,7 @@ next-job n i x l = let more : suc i ≡ i + 1 = omega arith in rw (one-less n i 
 pub next-variable : (n i : ℕ) → i < n → variables_from i (n - i) ≡ i ∷ variables_from (i + 1) (n - (i + 1))
 next-variable n i l = let more : suc i ≡ i + 1 = omega arith in rw (one-less n i l) (ap (λ (m : ℕ). i ∷ variables_from m (n - (i + 1))) more)
 
--- what is made, with what is still to be made behind it, is all
+-- what is made, with what is still to be made after it, is all
 moved : {X : Type 0} (made rest all : List X) (x : X) (xs : List X) → rest ≡ x ∷ xs → made ++ rest ≡ all → (made ++ x ∷ []) ++ xs ≡ all
 moved made rest all x xs e is = append_assoc made (x ∷ []) xs ∙ ap (λ ys. made ++ ys) (sym e) ∙ is
 

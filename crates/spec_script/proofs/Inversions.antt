@@ -3,6 +3,7 @@ use Rattle.std.proofs.Common.{◌≡◌, ℕ, Bool, true, false, cond, List, [],
 use Rattle.std.specs.List.{list_any}
 use Rattle.std.specs.Str.{bytes_eq}
 use Rattle.std.specs.Cmp.Lexicographic.{same_text}
+use Rattle.mal_base.specs.Limits.{limits}
 use Rattle.mal_base.specs.Asks.{Terms}
 use Rattle.mal_base.specs.declared.block_fault.BlockFault.{BlockFault}
 use Rattle.spec_dimacs.specs.Reading.{◌>>=◌}
@@ -10,7 +11,7 @@ use Rattle.mal_base.specs.declared.line_fault.LineFault.{LineFault}
 use Rattle.mal_base.specs.declared.line_fault.LineFault.TheVariants.{Limit, Duplicate}
 use Rattle.mal_base.specs.declared.limit_kind.LimitKind.TheVariants.{Clauses, Literals, Tenants, Jobs}
 use Rattle.mal_base.specs.Formulas.{Formulated, literals_of}
-use Rattle.spec_script.specs.Limits.{Limits}
+use Rattle.mal_base.specs.declared.limits.Limits.{Limits}
 use Rattle.spec_script.specs.Reading.{Reading, OpenJob, in_block, named, admitted, going_on, begun, is_job, has_room, on_line, revised, with_revision}
 
 pub bind_ok : {A B E : Type 0} (r : Result A E) (f : A → Result B E) (y : B) → (r >>= f) ≡ Ok y → (x : A) × (r ≡ Ok x) × (f x ≡ Ok y)
@@ -47,8 +48,8 @@ pub ok_is : {A E : Type 0} (x y : A) → ◌≡◌ {A = Result A E} (Ok x) (Ok y
 ok_is x y e = cc
 
 -- the name of a tenant leaves the job
-pub named_opened : (limits : Limits) (name : List ℕ) (s t : Reading) → named limits name s ≡ Ok t → t.opened ≡ s.opened
-named_opened limits name s t e = by_tests (list_any (bytes_eq name) s.tenants) (nat_lt (length s.tenants) limits.tenants) e
+pub named_opened : (most : Limits) (name : List ℕ) (s t : Reading) → named most name s ≡ Ok t → t.opened ≡ s.opened
+named_opened most name s t e = by_tests (list_any (bytes_eq name) s.tenants) (nat_lt (length s.tenants) most.tenants) e
   where
     by_tests : (a b : Bool) → cond a (Ok (record s { tenant = Some name })) (cond b (Ok (record s { tenants = s.tenants ++ name ∷ []; tenant = Some name })) (Err (Limit Tenants))) ≡ Ok t → t.opened ≡ s.opened
     by_tests true b h = sym (ap (λ (x : Reading). x.opened) (ok_is (record s { tenant = Some name }) t h))
@@ -56,15 +57,15 @@ named_opened limits name s t e = by_tests (list_any (bytes_eq name) s.tenants) (
     by_tests false false h = absurd (cc)
 
 -- a job that is admitted begins
-pub admitted_is : (limits : Limits) (tenant name : List ℕ) (s : Reading) (ask : Terms) (t : Reading) → admitted limits tenant name s ask ≡ Ok t → going_on s (begun tenant name ask) ≡ t
-admitted_is limits tenant name s ask t e =
-    let h = not_refused (list_any (is_job tenant name) s.jobs) (cond (has_room limits tenant s.jobs) (Ok (going_on s (begun tenant name ask))) (Err (Limit Jobs))) (Duplicate tenant name) t e in
-    let k = passed (has_room limits tenant s.jobs) (Ok (going_on s (begun tenant name ask))) (Limit Jobs) t h.1 in
+pub admitted_is : (most : Limits) (tenant name : List ℕ) (s : Reading) (ask : Terms) (t : Reading) → admitted most tenant name s ask ≡ Ok t → going_on s (begun tenant name ask) ≡ t
+admitted_is most tenant name s ask t e =
+    let h = not_refused (list_any (is_job tenant name) s.jobs) (cond (has_room most tenant s.jobs) (Ok (going_on s (begun tenant name ask))) (Err (Limit Jobs))) (Duplicate tenant name) t e in
+    let k = passed (has_room most tenant s.jobs) (Ok (going_on s (begun tenant name ask))) (Limit Jobs) t h.1 in
     ok_is (going_on s (begun tenant name ask)) t k.1
 
--- a revision that is within the limits of its job is behind the others
+-- a revision that is within the limits of its job is after the others
 pub revised_is : (o : OpenJob) (f : Formulated) (assumptions : List ℕ) (after : OpenJob) → revised o f assumptions ≡ Ok after → with_revision o f assumptions ≡ after
 revised_is o f assumptions after e =
-    let h = not_refused (nat_lt 1048576 (o.clauses + length f.clauses)) (cond (nat_lt 16777216 (o.literals + literals_of f.clauses)) (Err (Limit Literals)) (Ok (with_revision o f assumptions))) (Limit Clauses) after e in
-    let k = not_refused (nat_lt 16777216 (o.literals + literals_of f.clauses)) (Ok (with_revision o f assumptions)) (Limit Literals) after h.1 in
+    let h = not_refused (nat_lt limits.clauses (o.clauses + length f.clauses)) (cond (nat_lt limits.literals (o.literals + literals_of f.clauses)) (Err (Limit Literals)) (Ok (with_revision o f assumptions))) (Limit Clauses) after e in
+    let k = not_refused (nat_lt limits.literals (o.literals + literals_of f.clauses)) (Ok (with_revision o f assumptions)) (Limit Literals) after h.1 in
     ok_is (with_revision o f assumptions) after k.1

@@ -14,10 +14,10 @@ use Rattle.spec_dimacs.specs.Reading as block
 use Rattle.spec_dimacs.specs.Reading.{Block, ◌>>=◌, after_rows}
 use Rattle.mal_base.specs.declared.line_fault.LineFault.{LineFault}
 use Rattle.mal_base.specs.declared.line_fault.LineFault.TheVariants.{BadLine, Limit}
-use Rattle.spec_script.specs.Limits.{Limits}
+use Rattle.mal_base.specs.declared.limits.Limits.{Limits}
 use Rattle.spec_script.specs.Assumptions.{assumptions_in}
 use Rattle.spec_script.specs.Script.{Scripted, revisions}
-use Rattle.spec_script.specs.Reading.{Reading, OpenJob, in_block, named, asked, profile_in, admitted, going_on, begun, with_block, with_job, with_revision, with_weight, weighed, revised, after_header, after_weight, after_assumptions, inside_block, inside_job, inside, outside, after_tenant, of_tenant, after_job, after_end, after_counted, after_row, unended, at_end}
+use Rattle.spec_script.specs.Reading.{Reading, OpenJob, in_block, named, asked, admitted, going_on, begun, with_block, with_job, with_revision, with_weight, weighed, revised, after_header, after_weight, after_assumptions, inside_block, inside_job, inside, outside, after_tenant, of_tenant, after_job, after_end, after_counted, after_row, unended, at_end}
 use Rattle.spec_script.specs.Grammar.{StepLines, Revision, Weight, Part, Tenant, Job, step_lines, job_lines, part_lines, is_inside, StepAll, MakeAll}
 use Rattle.spec_script.proofs.Inversions.{bind_ok, in_block_ok, chosen, passed, same_bytes, ok_is, named_opened, admitted_is, revised_is}
 use Rattle.spec_script.proofs.AssumedForms.{read-assumes}
@@ -92,8 +92,8 @@ tenant-parsed limits (name ∷ []) rows s t r none e rest =
 owned-parsed : (limits : Limits) (tenant : Option (List ℕ)) (name p d k : List ℕ) (q : List (List ℕ)) (rows : List (List (List ℕ))) (s t : Reading) (r : Scripted) → s.tenant ≡ tenant → of_tenant limits tenant name p d k q s ≡ Ok t → Parsed limits rows t t.opened r → Outside limits ((codes "j" ∷ name ∷ p ∷ d ∷ k ∷ q) ∷ rows) s r
 owned-parsed limits None name p d k q rows s t r own e rest = absurd (cc)
 owned-parsed limits (Some tenant) name p d k q rows s t r own e rest =
-    let h = passed (is_name name) (asked (number_in p 1000) (number_in d 64) (number_in k 4096) (profile_in q) >>= admitted limits tenant name s) BadLine t e in
-    let a = bind_ok (asked (number_in p 1000) (number_in d 64) (number_in k 4096) (profile_in q)) (admitted limits tenant name s) t h.1 in
+    let h = passed (is_name name) (asked p d k q >>= admitted limits tenant name s) BadLine t e in
+    let a = bind_ok (asked p d k q) (admitted limits tenant name s) t h.1 in
     let is : going_on s (begun tenant name a.0) ≡ t = admitted_is limits tenant name s a.0 t a.2 in
     let job : InJob limits rows (going_on s (begun tenant name a.0)) (begun tenant name a.0) r = subst (λ (x : Reading). Parsed limits rows x x.opened r) (sym is) rest in
     record {
@@ -146,7 +146,7 @@ weight-parsed limits (p ∷ []) rows s t o r e rest = absurd (cc)
 weight-parsed limits (p ∷ d ∷ word ∷ words) rows s t o r e rest = absurd (cc)
 weight-parsed limits (p ∷ d ∷ []) rows s t o r e rest =
     let a = bind_ok (after_weight (p ∷ d ∷ []) o) (λ after. Ok (going_on s after)) t e in
-    let c = bind_ok (weighed (number_in p 1000) (number_in d 64)) (λ w. Ok (with_weight o w)) a.0 a.1 in
+    let c = bind_ok (weighed p d) (λ w. Ok (with_weight o w)) a.0 a.1 in
     let is : going_on s (with_weight o c.0) ≡ t = ap (λ (x : OpenJob). going_on s x) (ok_is (with_weight o c.0) a.0 c.2) ∙ ok_is (going_on s a.0) t a.2 in
     let left : InJob limits rows (going_on s (with_weight o c.0)) (with_weight o c.0) r = subst (λ (x : Reading). Parsed limits rows x x.opened r) (sym is) rest in
     record {

@@ -15,10 +15,10 @@ use Rattle.spec_dimacs.specs.Reading as block
 use Rattle.spec_dimacs.specs.Reading.{Block, ◌>>=◌, after_rows}
 use Rattle.mal_base.specs.declared.line_fault.LineFault.{LineFault}
 use Rattle.mal_base.specs.declared.line_fault.LineFault.TheVariants.{BadLine, Limit}
-use Rattle.spec_script.specs.Limits.{Limits}
+use Rattle.mal_base.specs.declared.limits.Limits.{Limits}
 use Rattle.spec_script.specs.Assumptions.{assumptions_in}
 use Rattle.spec_script.specs.Script.{ScriptedJob, Scripted, revisions}
-use Rattle.spec_script.specs.Reading.{Reading, OpenJob, unread, in_block, named, asked, profile_in, admitted, going_on, begun, with_block, with_job, revised, after_assumptions, inside_block, inside, with_weight, of_tenant, after_counted, after_row, at_end, on_line, read_rows, read_text}
+use Rattle.spec_script.specs.Reading.{Reading, OpenJob, unread, in_block, named, asked, admitted, going_on, begun, with_block, with_job, revised, after_assumptions, inside_block, inside, with_weight, of_tenant, after_counted, after_row, at_end, on_line, read_rows, read_text}
 use Rattle.spec_script.specs.Grammar.{RevisionLines, StepLines, Revision, Weight, JobLines, Part, Tenant, Job, revision_lines, step_lines, job_lines, part_lines, is_inside, Revises, Reasks, Steps, StepAll, Runs, MakeAll, Spells}
 use Rattle.spec_script.specs.Laws.{SpelledIsRead}
 use Rattle.spec_script.proofs.Inversions.{bind_ok, on_line_ok, ok_is}
@@ -69,7 +69,7 @@ read-spelled limits text s e =
 
 -- ---- what is spelled is read
 
--- the lines of a block behind its header
+-- the lines of a block after its header
 run-body : (limits : Limits) (body rest : List (List (List ℕ))) (s : Reading) (o : OpenJob) (b e : Block) → list_all is_inside body ≡ true → after_rows body b ≡ Ok e → run limits (body ++ rest) (going_on s (with_block o b)) ≡ run limits rest (going_on s (with_block o e))
 run-body limits [] rest s o b e inside h = ap (λ (x : Block). run limits rest (going_on s (with_block o x))) (ok_is b e h)
 run-body limits ([] ∷ body) rest s o b e inside h = absurd (cc)
@@ -120,7 +120,7 @@ run-weight limits p d s o next none is =
     ∙ ap (λ (x : Result Weighed LineFault). (x >>= λ w. Ok (with_weight o w)) >>= λ after. Ok (going_on s after)) (weighs-read p d is.weight is.weighs)
     ∙ ap (λ (x : OpenJob). Ok (going_on s x)) (sym is.reasked)
 
--- a step, behind which no block has begun
+-- a step, after which no block has begun
 run-step : (limits : Limits) (step : StepLines) (rest : List (List (List ℕ))) (s : Reading) (o next : OpenJob) → o.block ≡ None → Steps limits o step next
     → (run limits (step_lines step ++ rest) (going_on s o) ≡ run limits rest (going_on s next)) × (next.block ≡ None)
 run-step limits (Revision r) rest s o next none is = (run-revision limits r rest s o next none is, ap (λ (x : OpenJob). x.block) is.revised)
@@ -145,7 +145,7 @@ run-job : (limits : Limits) (s : Reading) (j : JobLines) (after : Reading) → s
 run-job limits s j after none is =
     ap (λ (x : Option OpenJob). after_counted limits (codes "j") (j.name ∷ j.priority ∷ j.demand ∷ j.slices ∷ j.profile) x s) none
     ∙ ap (λ (x : Option (List ℕ)). of_tenant limits x j.name j.priority j.demand j.slices j.profile s) is.owned
-    ∙ ap (λ (x : Bool). cond x (asked (number_in j.priority 1000) (number_in j.demand 64) (number_in j.slices 4096) (profile_in j.profile) >>= admitted limits is.tenant j.name s) (Err BadLine)) is.name
+    ∙ ap (λ (x : Bool). cond x (asked j.priority j.demand j.slices j.profile >>= admitted limits is.tenant j.name s) (Err BadLine)) is.name
     ∙ ap (λ (x : Result Terms LineFault). x >>= admitted limits is.tenant j.name s) (asks-read j.priority j.demand j.slices j.profile is.ask is.asks)
     ∙ admits-read limits is.tenant j.name s is.ask is.admitted
 

@@ -2,6 +2,7 @@
 use Rattle.std.proofs.Common.{◌≡◌, ℕ, ◌≤◌, true, false, not, List, [], ◌∷◌, ◌++◌, map, flat_map, length, codes, Option, refl, sym, ap, ap₂, ◌∙◌, subst, arith}
 use Rattle.std.specs.List.{list_all, AllByRecursion}
 use Rattle.std.proofs.lemmas.Bool.{leb-true}
+use Rattle.mal_base.specs.Limits.{limits}
 use Rattle.mal_base.specs.Asks.{Weighed}
 use Rattle.mal_base.specs.Formulas.{is_within, is_clause_of, is_within_limits, is_formula}
 use Rattle.mal_base.specs.Names.{is_name}
@@ -17,7 +18,7 @@ use Rattle.spec_dimacs.specs.Written.{closed_words, clause_words}
 use Rattle.spec_dimacs.proofs.Numbers.{number-not_word}
 use Rattle.spec_dimacs.proofs.Behind.{counted_of, keeps_row}
 use Rattle.spec_dimacs.proofs.Again.{rows_again, clause_lits, words-lits, lits_within, closed_row, header_row, closed_counts, literal_again}
-use Rattle.spec_script.specs.Limits.{Limits}
+use Rattle.mal_base.specs.declared.limits.Limits.{Limits}
 use Rattle.spec_script.specs.Script.{ScriptedJob, revision_rows, step_rows, weight_words, tenant_words, job_words, job_rows}
 use Rattle.spec_script.specs.declared.step.Step.{Step}
 use Rattle.spec_script.specs.declared.step.Step.TheVariants.{Revise, Reask}
@@ -50,13 +51,13 @@ text-rows rows h = ap counted_of (rows_again rows (all-rows rows h)) ∙ all-cou
 pub revision-formula : (r : Posted) → is_posted r ≡ true → is_formula (record { variables = r.variables; clauses = r.clauses }) ≡ true
 revision-formula r h = and-left _ _ h
 
-pub few-variables : (v : ℕ) (cs : List (Option (List ℕ))) → is_within_limits v cs ≡ true → v ≤ 65536
-few-variables v cs h = leb-true v 65536 (and-left _ _ (and-left _ _ h))
+pub few-variables : (v : ℕ) (cs : List (Option (List ℕ))) → is_within_limits v cs ≡ true → v ≤ limits.variables
+few-variables v cs h = leb-true v limits.variables (and-left _ _ (and-left _ _ h))
 
-clause-stands : (v : ℕ) (c : Option (List ℕ)) → v ≤ 65536 → is_clause_of v c ≡ true → Stands (clause_words c)
+clause-stands : (v : ℕ) (c : Option (List ℕ)) → v ≤ limits.variables → is_clause_of v c ≡ true → Stands (clause_words c)
 clause-stands v c low h = subst Stands (sym (words-lits c)) (closed_row (clause_lits c), closed_counts v (clause_lits c) low (lits_within v c h))
 
-clauses-stand : (v : ℕ) (cs : List (Option (List ℕ))) → v ≤ 65536 → list_all (is_clause_of v) cs ≡ true → AllByRecursion Stands (map clause_words cs)
+clauses-stand : (v : ℕ) (cs : List (Option (List ℕ))) → v ≤ limits.variables → list_all (is_clause_of v) cs ≡ true → AllByRecursion Stands (map clause_words cs)
 clauses-stand v [] low h = tt
 clauses-stand v (c ∷ cs) low h = (clause-stands v c low (and-left _ _ h), clauses-stand v cs low (and-right (is_clause_of v c) _ h))
 
@@ -87,18 +88,18 @@ steps-stand (step ∷ steps) h = all-both (step_rows step) (flat_map step_rows s
 tenant-stands : (tenant : List ℕ) → is_name tenant ≡ true → Stands (tenant_words tenant)
 tenant-stands tenant h = ((omega arith, ((omega arith, (omega arith, tt)), (name-clean tenant h, tt))), refl)
 
-terms-stand : (limits : Limits) (j : ScriptedJob) → is_name j.name ≡ true → Stands (job_words j.name j.ask)
-terms-stand limits j h = ((omega arith, ((omega arith, (omega arith, tt)), (name-clean j.name h, (decimals_are_clean j.ask.priority, (decimals_are_clean j.ask.demand, (decimals_are_clean j.ask.slices, profile-clean j.ask.profile)))))), refl)
+terms-stand : (most : Limits) (j : ScriptedJob) → is_name j.name ≡ true → Stands (job_words j.name j.ask)
+terms-stand most j h = ((omega arith, ((omega arith, (omega arith, tt)), (name-clean j.name h, (decimals_are_clean j.ask.priority, (decimals_are_clean j.ask.demand, (decimals_are_clean j.ask.slices, profile-clean j.ask.profile)))))), refl)
 
 end-stands : Stands (codes "e" ∷ [])
 end-stands = ((omega arith, ((omega arith, (omega arith, tt)), tt)), refl)
 
-job-stands : (limits : Limits) (j : ScriptedJob) → IsJob limits j → AllByRecursion Stands (job_rows j)
-job-stands limits j is = (tenant-stands j.tenant is.tenant, (terms-stand limits j is.name, all-both (flat_map step_rows j.steps) ((codes "e" ∷ []) ∷ []) (steps-stand j.steps is.formed) (end-stands, tt)))
+job-stands : (most : Limits) (j : ScriptedJob) → IsJob most j → AllByRecursion Stands (job_rows j)
+job-stands most j is = (tenant-stands j.tenant is.tenant, (terms-stand most j is.name, all-both (flat_map step_rows j.steps) ((codes "e" ∷ []) ∷ []) (steps-stand j.steps is.formed) (end-stands, tt)))
 
-pub jobs-stand : (limits : Limits) (jobs js : List ScriptedJob) → MayAllFollow limits jobs js → AllByRecursion Stands (flat_map job_rows js)
-jobs-stand limits jobs [] h = tt
-jobs-stand limits jobs (j ∷ js) (first, others) = all-both (job_rows j) (flat_map job_rows js) (job-stands limits j first.formed) (jobs-stand limits (jobs ++ j ∷ []) js others)
+pub jobs-stand : (most : Limits) (jobs js : List ScriptedJob) → MayAllFollow most jobs js → AllByRecursion Stands (flat_map job_rows js)
+jobs-stand most jobs [] h = tt
+jobs-stand most jobs (j ∷ js) (first, others) = all-both (job_rows j) (flat_map job_rows js) (job-stands most j first.formed) (jobs-stand most (jobs ++ j ∷ []) js others)
 
 -- ---- the parts that the lines are
 
@@ -130,12 +131,12 @@ parts-lines (j ∷ js) = ap₂ (λ (x y : List (List (List ℕ))). tenant_words 
 
 -- ---- the lines of clauses stand in a block
 
-closed-inside : (v : ℕ) (lits : List ℕ) → v ≤ 65536 → is_within v lits ≡ true → is_inside (closed_words lits) ≡ true
+closed-inside : (v : ℕ) (lits : List ℕ) → v ≤ limits.variables → is_within v lits ≡ true → is_inside (closed_words lits) ≡ true
 closed-inside v [] low h = refl
 closed-inside v (l ∷ ls) low h =
     and-both _ _ (ap not (closed_counts v (l ∷ ls) low h)) (ap not (number-not_word (literal_word l) v (number_of l) 97 refl refl (literal_again v l low (and-left _ _ h))))
 
-pub clauses-inside : (v : ℕ) (cs : List (Option (List ℕ))) → v ≤ 65536 → list_all (is_clause_of v) cs ≡ true → list_all is_inside (map clause_words cs) ≡ true
+pub clauses-inside : (v : ℕ) (cs : List (Option (List ℕ))) → v ≤ limits.variables → list_all (is_clause_of v) cs ≡ true → list_all is_inside (map clause_words cs) ≡ true
 clauses-inside v [] low h = refl
 clauses-inside v (c ∷ cs) low h =
     and-both _ _ (ap is_inside (words-lits c) ∙ closed-inside v (clause_lits c) low (lits_within v c (and-left _ _ h))) (clauses-inside v cs low (and-right (is_clause_of v c) _ h))

@@ -1,4 +1,4 @@
--- The words behind the first of a line of assumptions, as they are read.
+-- The words after the first of a line of assumptions, as they are read.
 use Rattle.std.specs.Prelude.{ℕ, zero, Bool, true, false, List, [], ◌∷◌, ◌++◌, map, bytes_eq, codes, if◌then◌else◌, pos, Option, Some, None, Result, Ok, Err}
 use Rattle.mal_base.specs.Clauses.{clash}
 use Rattle.spec_text.specs.Numbers.{NumberWord, number_in}
@@ -8,12 +8,12 @@ use Rattle.spec_dimacs.specs.Reading.{◌>>=◌, code_of}
 use Rattle.mal_base.specs.declared.line_fault.LineFault.{LineFault}
 use Rattle.mal_base.specs.declared.line_fault.LineFault.TheVariants.{BadLine, Opposite, Range}
 
--- behind the 0 that closes the literals stands nothing; a literal above the variables was met, or none
+-- after the 0 that closes the literals stands nothing; a literal above the variables was met, or none
 abbrev pub closed : List ℕ → Bool → List NumberWord → Result (List ℕ) LineFault
 closed lits above [] = if above then Err Range else Ok lits
 closed lits above (word ∷ words) = Err BadLine
 
--- the literals of words up to the 0 that ends the line, behind those of the words before
+-- the literals of words up to the 0 that ends the line, after those of the words before
 abbrev pub literals_from : List ℕ → Bool → List NumberWord → Result (List ℕ) LineFault
 literals_from lits above [] = Err BadLine
 literals_from lits above (NotANumber ∷ words) = Err BadLine

@@ -1,6 +1,6 @@
 -- No two scripts are written as one text.
 use Rattle.std.specs.Prelude.{◌≡◌, ◌≢◌, [], ◌∷◌, codes}
-use Rattle.spec_script.specs.Limits.{Limits}
+use Rattle.mal_base.specs.declared.limits.Limits.{Limits}
 use Rattle.spec_script.specs.Script.{Scripted, spelling}
 use Rattle.spec_script.specs.Formed.{IsScript}
 use Rattle.spec_script.specs.Examples.{asks_anew, asks_first, job_named, job_with, second_profile}

@@ -1,6 +1,7 @@
 -- The scripts of the generator: a seed decides random formulas of three literals a clause.
 use Rattle.std.specs.Prelude.{ℕ, zero, suc, ◌+◌, ◌-◌, ◌%◌, ◌==◌, List, [], ◌∷◌, length, decimal, Option}
 use Rattle.std.specs.List.{remove, slice_index}
+use Rattle.mal_base.specs.declared.profile.Profile.TheVariants.{Plain}
 use Rattle.mal_base.specs.Asks.{Terms}
 use Rattle.mal_base.specs.Literals.{literal}
 use Rattle.mal_revision.specs.Posted.{Posted}
@@ -33,7 +34,7 @@ literals_from zero left x = []
 literals_from (suc k) left x =
     signed (slice_index left (pick (length left) x)) (next x) ∷ literals_from k (remove left (pick (length left) x)) (next (next x))
 
--- the generator's number behind so many literals
+-- the generator's number after so many literals
 abbrev pub after_literals : ℕ → ℕ → ℕ
 after_literals zero x = x
 after_literals (suc k) x = after_literals k (next (next x))
@@ -42,7 +43,7 @@ after_literals (suc k) x = after_literals k (next (next x))
 unfoldable pub clause_from : ℕ → Option (List ℕ)
 clause_from x = clause_of (literals_from 3 variables x)
 
--- the generator's number behind a clause
+-- the generator's number after a clause
 unfoldable pub after_clause : ℕ → ℕ
 after_clause x = after_literals 3 x
 
@@ -51,7 +52,7 @@ unfoldable pub clauses_from : ℕ → ℕ → List (Option (List ℕ))
 clauses_from zero x = []
 clauses_from (suc k) x = clause_from x ∷ clauses_from k (after_clause x)
 
--- the generator's number behind so many clauses
+-- the generator's number after so many clauses
 unfoldable pub after_clauses : ℕ → ℕ → ℕ
 after_clauses zero x = x
 after_clauses (suc k) x = after_clauses k (after_clause x)
@@ -60,7 +61,7 @@ after_clauses (suc k) x = after_clauses k (after_clause x)
 abbrev pub revision_from : ℕ → Posted
 revision_from x = record { variables = 50; clauses = clauses_from 213 x; assumptions = [] }
 
--- the generator's number behind the revision of a job
+-- the generator's number after the revision of a job
 abbrev pub after_revision : ℕ → ℕ
 after_revision x = after_clauses 213 x
 
@@ -71,9 +72,9 @@ tenant_of i = 116 ∷ decimal ((i - 1) % 4 + 1)
 abbrev pub name_of : ℕ → List ℕ
 name_of i = 106 ∷ decimal i
 
--- what a job asks for: a priority of 1 to 8, demand 1, 64 slices and profile 1
+-- what a job asks for: a priority of 1 to 8, demand 1, 64 slices and the first profile
 abbrev pub ask_from : ℕ → Terms
-ask_from x = record { priority = 1 + pick 8 x; demand = 1; slices = 64; profile = 1 }
+ask_from x = record { priority = 1 + pick 8 x; demand = 1; slices = 64; profile = Plain }
 
 -- the job of this number
 abbrev pub job_from : ℕ → ℕ → ScriptedJob
@@ -83,6 +84,10 @@ job_from i x = record { tenant = tenant_of i; name = name_of i; ask = ask_from x
 abbrev pub jobs_from : ℕ → ℕ → ℕ → List ScriptedJob
 jobs_from zero i x = []
 jobs_from (suc k) i x = job_from i x ∷ jobs_from k (suc i) (after_revision (next x))
+
+-- a script of the generator has 1 to so many jobs
+abbrev pub most_generated : ℕ
+most_generated = 256
 
 -- the script of a seed with so many jobs
 abbrev pub generated : ℕ → ℕ → Scripted

@@ -1,12 +1,12 @@
 use Rattle.std.specs.Prelude.{◌≡◌, ℕ, ◌≤◌, ◌^◌, ◌<◌, [], ◌∷◌, codes}
 use Rattle.spec_script.specs.Formed.{IsScript}
-use Rattle.spec_script.specs.Limits.{served}
-use Rattle.spec_script.specs.Generated.{generated, literals_from, variables, tenant_of, name_of, ask_from}
+use Rattle.mal_base.specs.Limits.{limits}
+use Rattle.spec_script.specs.Generated.{most_generated, generated, literals_from, variables, tenant_of, name_of, ask_from}
 use Rattle.spec_seq.specs.Draws.{next}
 
--- the script of a seed is in form, with 1 to 256 jobs
+-- the script of a seed is in form, with as many jobs as are made
 abbrev pub GeneratedIsScript : Type 0
-GeneratedIsScript = (seed jobs : ℕ) → seed < 2 ^ 31 → 1 ≤ jobs → jobs ≤ 256 → IsScript served (generated seed jobs)
+GeneratedIsScript = (seed jobs : ℕ) → seed < 2 ^ 31 → 1 ≤ jobs → jobs ≤ most_generated → IsScript limits (generated seed jobs)
 
 -- worked examples: of seed 1 the first job has priority 7, and its first clause is made of -9, -24 and 13
 pub record HasExamples : Type 0 where

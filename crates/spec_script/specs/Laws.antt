@@ -4,13 +4,12 @@ use Rattle.mal_base.specs.Asks.{Terms, Weighed}
 use Rattle.mal_base.specs.Formulas.{Formulated}
 use Rattle.mal_base.specs.declared.line_fault.LineFault.{LineFault}
 use Rattle.spec_text.specs.Inputs.{lines_of}
-use Rattle.spec_text.specs.Numbers.{number_in}
 use Rattle.spec_dimacs.specs.Grammar as block
 use Rattle.spec_dimacs.specs.Rows.{counted_rows}
-use Rattle.spec_script.specs.Limits.{Limits}
+use Rattle.mal_base.specs.declared.limits.Limits.{Limits}
 use Rattle.spec_script.specs.Script.{Scripted, spelling}
 use Rattle.spec_script.specs.Assumptions.{assumptions_in}
-use Rattle.spec_script.specs.Reading.{OpenJob, Reading, admitted, after_tenant, asked, begun, going_on, profile_in, read_text, revised, weighed, with_revision}
+use Rattle.spec_script.specs.Reading.{OpenJob, Reading, admitted, after_tenant, asked, begun, going_on, read_text, revised, weighed, with_revision}
 use Rattle.spec_script.specs.Grammar.{Admits, Asks, Assumes, HasRoomFor, Names, Spells, Weighs, formula_of}
 use Rattle.spec_script.specs.Within.{IsWithin}
 use Rattle.spec_script.specs.Formed.{IsScript}
@@ -28,11 +27,11 @@ BlockIsSpelled =
 
 -- reading words gives just the ask that they say
 abbrev pub AskIsRead : Type 0
-AskIsRead = (p d k : List ℕ) (q : List (List ℕ)) (ask : Terms) → Asks p d k q ask ↔ (asked (number_in p 1000) (number_in d 64) (number_in k 4096) (profile_in q) ≡ Ok ask)
+AskIsRead = (p d k : List ℕ) (q : List (List ℕ)) (ask : Terms) → Asks p d k q ask ↔ (asked p d k q ≡ Ok ask)
 
 -- reading words gives just the weight that they say
 abbrev pub WeightIsRead : Type 0
-WeightIsRead = (p d : List ℕ) (weight : Weighed) → Weighs p d weight ↔ (weighed (number_in p 1000) (number_in d 64) ≡ Ok weight)
+WeightIsRead = (p d : List ℕ) (weight : Weighed) → Weighs p d weight ↔ (weighed p d ≡ Ok weight)
 
 -- a tenant's line is read exactly where its word names a tenant
 abbrev pub TenantIsRead : Type 0
@@ -52,7 +51,7 @@ abbrev pub RevisionIsRead : Type 0
 RevisionIsRead = (o : OpenJob) (formula : Formulated) (assumptions : List ℕ) (after : OpenJob)
     → (HasRoomFor o formula × (after ≡ with_revision o formula assumptions)) ↔ (revised o formula assumptions ≡ Ok after)
 
--- nothing behind a faulty line counts: where the first fault is on a line before the last, each text that begins with
+-- nothing after a faulty line counts: where the first fault is on a line before the last, each text that begins with
 -- the same lines, up to this one, has the same first fault
 abbrev pub FaultIsFirst : Type 0
 FaultIsFirst = (limits : Limits) (text other : List ℕ) (line : ℕ) (fault : LineFault) → read_text limits text ≡ Err (line, fault) → line < length (lines_of text) → take line (lines_of other) ≡ take line (lines_of text) → read_text limits other ≡ Err (line, fault)

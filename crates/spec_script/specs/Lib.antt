@@ -1,5 +1,4 @@
 pub mod Script
-pub mod Limits
 pub mod Assumptions
 pub mod Reading
 pub mod Grammar

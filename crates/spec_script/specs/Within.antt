@@ -1,6 +1,6 @@
 use Rattle.std.specs.Prelude.{◌≤◌, length}
 use Rattle.std.specs.List.{AllByRecursion}
-use Rattle.spec_script.specs.Limits.{Limits}
+use Rattle.mal_base.specs.declared.limits.Limits.{Limits}
 use Rattle.spec_script.specs.Script.{Scripted, revisions}
 
 -- a script has no more jobs, and no job of it more revisions, than the limits say

@@ -1,12 +1,16 @@
-use Rattle.std.proofs.Common.{◌≡◌, ℕ, zero, suc, ◌+◌, ◌≤◌, Bool, true, false, cond, length, Option, Some, None, refl, sym, subst, arith}
-use Rattle.std.specs.Prelude.{sum_by, nat_lt, is_some, ◌==◌, ◌&&◌, ◌||◌}
+use Rattle.std.proofs.Common.{◌≡◌, ℕ, zero, suc, ◌+◌, ◌≤◌, Bool, true, false, length, Option, Some, None, refl, sym, subst, arith}
+use Rattle.std.specs.Prelude.{sum_by, nat_lt, is_some, ◌||◌}
 use Rattle.std.specs.Option.{option_map_or}
 use Rattle.std.proofs.lemmas.List.Sums.{sum_by-cons}
-use Rattle.std.proofs.lemmas.Bool.{and_from, and_parts, le-ltb}
+use Rattle.std.proofs.lemmas.Bool.{le-ltb}
+use Rattle.mal_base.specs.declared.profile.Profile.{Profile}
+use Rattle.mal_base.specs.declared.profile.Reduction.{Reduction}
+use Rattle.mal_base.specs.declared.profile.Reduction.TheVariants.{Never, After}
+use Rattle.mal_base.specs.Profiles.{policy, counted, may_stand}
 use Rattle.mal_base.specs.NumberedClause.{Line}
 use Rattle.mal_base.specs.declared.verdict.Verdict.{Verdict}
-use Rattle.spec_node.specs.State.{Node, has_profile}
-use Rattle.spec_learn.specs.Learning.{counted_in, line_of}
+use Rattle.spec_node.specs.State.{Node, fresh_with, has_profile}
+use Rattle.spec_learn.specs.Learning.{line_of}
 use Rattle.spec_learn.specs.Refuting.{core_line}
 use Rattle.spec_learn.proofs.ProfileLemmas.{sound-small}
 use Rattle.spec_learn.proofs.CoreClauseLemmas.{core-small}
@@ -23,15 +27,12 @@ pub record Rise (k : ℕ) (before after : Node) : Type 0 where
   pub restart_number : after.restart_number ≤ before.restart_number + k
   pub conflicts_since_dropping : after.conflicts_since_dropping ≤ before.conflicts_since_dropping + k
 
-counted-more : (profile count : ℕ) → counted_in profile count ≤ count + 1
-counted-more profile count = by_profile (profile == 2)
-  where
-    by_profile : (b : Bool) → cond b (count + 1) count ≤ count + 1
-    by_profile true = omega arith
-    by_profile false = omega arith
+counted-more : (r : Reduction) (count : ℕ) → counted r count ≤ count + 1
+counted-more Never count = omega arith
+counted-more (After most) count = omega arith
 
 pub case-rise : (c : Case) (n : Node) → Rise 1 n (after_case c n)
-case-rise (Learns id) n = record { serial = omega arith; conflicts_since_restart = omega arith; restart_number = omega arith; conflicts_since_dropping = counted-more n.profile n.conflicts_since_dropping }
+case-rise (Learns id) n = record { serial = omega arith; conflicts_since_restart = omega arith; restart_number = omega arith; conflicts_since_dropping = counted-more (policy n.profile).reduction n.conflicts_since_dropping }
 case-rise (Refutes id) n = record { serial = omega arith; conflicts_since_restart = omega arith; restart_number = omega arith; conflicts_since_dropping = omega arith }
 case-rise Propagates n = record { serial = omega arith; conflicts_since_restart = omega arith; restart_number = omega arith; conflicts_since_dropping = omega arith }
 case-rise Drops n = record { serial = omega arith; conflicts_since_restart = omega arith; restart_number = omega arith; conflicts_since_dropping = omega arith }
@@ -58,22 +59,22 @@ unfolding slice
 slice-counts n = let r : Rise 1000 n (steps_unless 1000 (is_over 0 n) 0 n).node = steps-rise 1000 (is_over 0 n) 0 n in record { serial = r.serial; conflicts_since_restart = r.conflicts_since_restart; restart_number = r.restart_number; conflicts_since_dropping = r.conflicts_since_dropping }
 
 -- a node that follows a profile follows it after a step
-counted-has_profile : (p count : ℕ) → ((p == 2) || ((p == 1) && (count == 0))) ≡ true → ((p == 2) || ((p == 1) && (counted_in p count == 0))) ≡ true
-counted-has_profile p count h = by_two (p == 2) h
-  where
-    by_two : (b : Bool) → (b || ((p == 1) && (count == 0))) ≡ true → (b || ((p == 1) && (cond b (count + 1) count == 0))) ≡ true
-    by_two true k = refl
-    by_two false k = k
+counted-stands : (r : Reduction) (count : ℕ) → may_stand r count ≡ true → may_stand r (counted r count) ≡ true
+counted-stands Never count h = h
+counted-stands (After most) count h = refl
 
-anew-has_profile : (two one count : Bool) → (two || (one && count)) ≡ true → (two || (one && true)) ≡ true
-anew-has_profile true one count h = refl
-anew-has_profile false one count h = and_from one true (and_parts one count h).0 refl
+none-stands : (r : Reduction) → may_stand r 0 ≡ true
+none-stands Never = refl
+none-stands (After most) = refl
+
+pub fresh-has_profile : (index : ℕ) (profile : Profile) → has_profile (fresh_with index profile) ≡ true
+fresh-has_profile index profile = none-stands (policy profile).reduction
 
 case-has_profile : (c : Case) (n : Node) → has_profile n ≡ true → has_profile (after_case c n) ≡ true
-case-has_profile (Learns id) n h = counted-has_profile n.profile n.conflicts_since_dropping h
+case-has_profile (Learns id) n h = counted-stands (policy n.profile).reduction n.conflicts_since_dropping h
 case-has_profile (Refutes id) n h = h
 case-has_profile Propagates n h = h
-case-has_profile Drops n h = anew-has_profile (n.profile == 2) (n.profile == 1) (n.conflicts_since_dropping == 0) h
+case-has_profile Drops n h = none-stands (policy n.profile).reduction
 case-has_profile Restarts n h = h
 case-has_profile (Contradicts a) n h = h
 case-has_profile (Assumes a) n h = h

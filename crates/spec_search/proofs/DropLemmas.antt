@@ -3,7 +3,9 @@ use Rattle.std.specs.Prelude.{All, Contains, filter, ◌==◌, ◌&&◌, nat_lt,
 use Rattle.std.specs.List.{list_any}
 use Rattle.std.proofs.lemmas.List.{length-take-le}
 use Rattle.std.proofs.lemmas.List.Elements.{All-nil, All-cons, All-head, All-tail, All-take, All-weaker, All-filter, filter_passes, All-contains_itself, Contains-append_left, Contains-append_right, Contains-push}
-use Rattle.std.proofs.lemmas.Bool.{and_parts, and_from, both_ways, eq-eqb, ne_eqb, le-leb, lt-leb, leb-true, ltb-true, not-true}
+use Rattle.std.proofs.lemmas.Bool.{and_parts, both_ways, ne_eqb, le-leb, lt-leb, leb-true, ltb-true, not-true}
+use Rattle.mal_base.specs.declared.profile.Reduction.{Reduction}
+use Rattle.mal_base.specs.Profiles.{is_due}
 use Rattle.mal_base.specs.NumberedClause.{NumberedClause}
 use Rattle.mal_base.specs.declared.trail_entry.TrailEntry.{TrailEntry}
 use Rattle.spec_node.specs.Cut.{kept}
@@ -89,9 +91,9 @@ drops-hold n =
 -- a dropping that is due comes where the node is idle
 pub drops-when_due : DropsWhenDue
 drops-when_due = record {
-  due = λ n calm handled two many.
+  due = λ n most calm handled reduces many.
       let batch : nat_le n.processed (length n.trail) ≡ false = lt-leb n.processed (length n.trail) handled in
-      let is : is_dropping_due n ≡ true = and_from (n.profile == 2) (nat_le 2000 n.conflicts_since_dropping) (eq-eqb n.profile 2 two) (le-leb 2000 n.conflicts_since_dropping many) in
+      let is : is_dropping_due n ≡ true = ap (λ (r : Reduction). is_due r n.conflicts_since_dropping) reduces ∙ le-leb most n.conflicts_since_dropping many in
       ap (λ (o : Option ℕ). case_by o n) calm ∙ (ap (λ (b : Bool). cond {A = Case} b Propagates (cond {A = Case} (is_dropping_due n) Drops (restarting n))) batch ∙ ap (λ (b : Bool). cond {A = Case} b Drops (restarting n)) is);
-  never = λ n other. ap (λ (b : Bool). b && nat_le 2000 n.conflicts_since_dropping) (ne_eqb n.profile 2 other);
+  never = λ n keeps. ap (λ (r : Reduction). is_due r n.conflicts_since_dropping) keeps;
 }

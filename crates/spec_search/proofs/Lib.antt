@@ -5,6 +5,7 @@ pub mod SoundLemmas
 pub mod ModelLemmas
 pub mod CountLemmas
 pub mod LineLemmas
+pub mod LinesLemmas
 -- what this crate alone cites
 mod ExampleLemmas
 mod ConsistentLemmas

@@ -49,7 +49,7 @@ step-derives n h = by_cases (λ c. Stepped n (after_case c n) (line_by c n)) n (
   ends = λ idle o f. (All-contains_itself n.clauses, refl);
 })
 
--- what holds at the end of a slice over all clauses held, and with each line behind them, holds of the whole
+-- what holds at the end of a slice over all clauses held, and with each line after them, holds of the whole
 module _ (P : List NumberedClause → Sliced → Type 0) (end : (held : List NumberedClause) (n : Node) → IsOver held n → P held (record { node = n; lines = [] })) (more : (held : List NumberedClause) (n : Node) (l : Line) (s : Sliced) → IsOver held n → l.id ≡ derived_id n → IsDerivedFrom n.clauses l → P (with_line held l) s → P held (after_line (Some l) s)) where
   after_line-over : (held : List NumberedClause) (n m : Node) (o : Option Line) (s : Sliced) → IsSound n → IsOver held n → Stepped n m o → ((cs : List NumberedClause) → IsOver cs m → P cs s) → P held (after_line o s)
   after_line-over held n m None s h v k f = f held (over-without_line held n m v k)

@@ -1,13 +1,14 @@
 -- Dropping: the longer half of the derived clauses that may go is no longer held.
-use Rattle.std.specs.Prelude.{Bool, ◌&&◌, ◌==◌, nat_le}
+use Rattle.std.specs.Prelude.{Bool}
+use Rattle.mal_base.specs.Profiles.{policy, is_due}
 use Rattle.spec_node.specs.State.{Node}
 use Rattle.spec_node.specs.Cut.{cut}
 use Rattle.spec_node.specs.Adding.{forgetting}
 use Rattle.spec_learn.specs.Dropping.{to_drop}
 
--- whether a dropping is due: under profile 2 after 2,000 conflicts that were learned since the last
+-- whether a dropping is due: where the profile reduces, after so many conflicts that were learned since the last
 abbrev pub is_dropping_due : Node → Bool
-is_dropping_due n = (n.profile == 2) && nat_le 2000 n.conflicts_since_dropping
+is_dropping_due n = is_due (policy n.profile).reduction n.conflicts_since_dropping
 
 -- a node after dropping: it goes back to level 0, holds no longer the longer half of what may go there, and counts from
 -- 0 again

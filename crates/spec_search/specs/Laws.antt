@@ -41,8 +41,8 @@ StepsLeave = (k used : ℕ) (n : Node) → Leaves n (steps_from k used n).node
 abbrev pub SliceLeaves : Type 0
 SliceLeaves = (n : Node) → Leaves n (slice n).node
 
--- a node that follows a profile follows it after a step and after a slice: only under profile 2 conflicts are counted
--- for droppings
+-- a node that follows a profile follows it after a step and after a slice: only where the profile reduces, conflicts
+-- are counted for droppings
 abbrev pub StepKeepsProfile : Type 0
 StepKeepsProfile = (n : Node) → has_profile n ≡ true → has_profile (step n) ≡ true
 

@@ -5,3 +5,4 @@ pub mod Laws
 pub mod Examples
 pub mod Dropping
 pub mod DroppingLaws
+pub mod Covering

@@ -8,9 +8,13 @@ use Rattle.spec_search.specs.Step.{step, next_line}
 abbrev pub numbers_of : Line → ℕ
 numbers_of l = length l.lits + length l.hints
 
+-- the literals and hints that the lines of a slice may have, beside those of one more line
+abbrev pub slice_room : ℕ
+slice_room = 65536
+
 -- how many literals and hints the lines of a slice have at the most, for so many variables
 abbrev pub most_numbers : ℕ → ℕ
-most_numbers variables = 65536 + 2 * variables + 2
+most_numbers variables = slice_room + 2 * variables + 2
 
 -- a slice in which so many literals and hints were derived is over where a verdict stands, or where the next line would
 -- bring them above the most

@@ -16,7 +16,7 @@ pub fn search_is_sound()
 {}
 
 /// Steps and slices leave the index, the profile, the variables, the assumptions and the original clauses, and count
-/// for droppings only under the profile that drops.
+/// for droppings only under a profile that reduces.
 pub fn slices_leave()
     ensures step { StepLeaves }
     ensures steps { StepsLeave }
@@ -58,8 +58,8 @@ pub fn drop_examples()
     ensures profiles { HasProfiles }
 {}
 
-/// Dropping keeps a node sound, its originals and the reasons on its trail; half of what may go goes. It comes under
-/// profile 2 alone, where it is due.
+/// Dropping keeps a node sound, its originals and the reasons on its trail; half of what may go goes. It comes only
+/// under a profile that reduces, where it is due.
 pub fn drops_keep_sound()
     ensures sound { DropKeepsSound }
     ensures hold { DropsHold }

@@ -4,5 +4,6 @@ pub mod Names
 pub mod Again
 pub mod Read
 pub mod Numerals
+pub mod Asked
 -- what this crate alone cites
 pub mod Examples

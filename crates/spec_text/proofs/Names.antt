@@ -5,7 +5,9 @@ use Rattle.std.specs.List.{AllByRecursion, list_all}
 use Rattle.std.proofs.lemmas.Bool.{leb-true, ltb-true, and_parts}
 use Rattle.std.proofs.lemmas.Bool.Decides.{nat_tests}
 use Rattle.mal_base.specs.Names.{is_name, is_name_byte}
-use Rattle.spec_text.specs.Asks.{profile_words}
+use Rattle.mal_base.specs.Profiles.{number}
+use Rattle.mal_base.specs.declared.profile.Profile.{Profile}
+use Rattle.spec_text.specs.Asks.{is_first, profile_words}
 use Rattle.spec_text.specs.Lines.{IsClean, AreClean}
 use Rattle.spec_text.specs.Numbers.{decimal_word}
 use Rattle.spec_text.proofs.Clean.{decimals_are_clean}
@@ -27,9 +29,9 @@ name-clean name h =
     let both = and_parts (nat_lt 0 (length name) && nat_le (length name) 32) (list_all is_name_byte name) h in
     (ltb-true 0 (length name) (and_parts (nat_lt 0 (length name)) (nat_le (length name) 32) both.0).0, name-bytes name both.1)
 
-pub profile-clean : (profile : ℕ) → AreClean (profile_words profile)
-profile-clean profile = by_test (profile == 1)
+pub profile-clean : (profile : Profile) → AreClean (profile_words profile)
+profile-clean profile = by_test (is_first profile)
   where
-    by_test : (b : Bool) → AreClean (cond b [] (decimal_word profile ∷ []))
+    by_test : (b : Bool) → AreClean (cond b [] (decimal_word (number profile) ∷ []))
     by_test true = tt
-    by_test false = (decimals_are_clean profile, tt)
+    by_test false = (decimals_are_clean (number profile), tt)

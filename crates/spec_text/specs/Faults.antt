@@ -1,7 +1,7 @@
 -- What is answered where a text is read, and what is told of its fault.
 use Rattle.std.specs.Prelude.{◌≡◌, ℕ, List, Option, Some, None, Result, Ok, Err}
 
--- reading gives this fault; none is want of memory, which claims nothing
+-- reading gives this fault; none is out of memory, which claims nothing
 abbrev pub Fails : {Y F : Type 0} → Option F → Result Y F → Type 0
 Fails None read = Unit {0}
 Fails (Some fault) read = read ≡ Err fault

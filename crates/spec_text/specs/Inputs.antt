@@ -2,7 +2,7 @@
 use Rattle.std.specs.Prelude.{ℕ, Bool, false, ◌||◌, List, [], ◌∷◌, length, nat_lt, ◌==◌, bytes_eq, if◌then◌else◌, filter}
 use Rattle.std.specs.List.{slice_split, onto_first}
 
--- a byte before the lines of the text behind it: a line end begins an empty line, any other byte is the first of the
+-- a byte before the lines of the text after it: a line end begins an empty line, any other byte is the first of the
 -- next line's
 abbrev pub before_lines : ℕ → List (List ℕ) → List (List ℕ)
 before_lines byte lines = if byte == 10 then [] ∷ lines else onto_first byte lines

@@ -30,7 +30,7 @@ WordsAgain =
     (words : List (List ℕ)) → AreClean words → 0 < length words
     → slice_split (λ b. b == 32) (join_with_byte 32 words) ≡ words
 
--- a text that is cut at its line ends gives its lines again, and nothing behind the last line end
+-- a text that is cut at its line ends gives its lines again, and nothing after the last line end
 abbrev pub LinesAgain : Type 0
 LinesAgain =
     (rows : List (List (List ℕ))) → AreRows rows
@@ -40,7 +40,7 @@ LinesAgain =
 abbrev pub TextsDiffer : Type 0
 TextsDiffer = (a b : List (List (List ℕ))) → AreRows a → AreRows b → text_of a ≡ text_of b → a ≡ b
 
--- the words of a line, one after another, each but the first behind a space
+-- the words of a line, one after another, each but the first after a space
 abbrev pub JoinedWordByWord : Type 0
 JoinedWordByWord =
     (word : List ℕ) (words : List (List ℕ))

@@ -29,7 +29,7 @@ is_digit byte = nat_le 48 byte && nat_le byte 57
 abbrev pub is_numeral : List ℕ → Bool
 is_numeral word = nat_lt 0 (length word) && list_all is_digit word
 
--- a number with one more digit behind it
+-- a number with one more digit after it
 abbrev pub with_digit : ℕ → ℕ → ℕ
 with_digit value digit = value * 10 + (digit - 48)
 

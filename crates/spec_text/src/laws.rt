@@ -43,7 +43,7 @@ pub fn texts_differ()
     ensures { TextsDiffer }
 {}
 
-/// The words of a line stand one after another, each but the first behind a space.
+/// The words of a line stand one after another, each but the first after a space.
 #[tactic(auto, using(crate::proofs::Again::joined_word_by_word))]
 pub fn joined_word_by_word()
     ensures { JoinedWordByWord }

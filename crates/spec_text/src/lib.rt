@@ -2,4 +2,7 @@
 //! other. Each law is the contract of a function that does nothing.
 #![tactic(auto)]
 
+mod ask_fault;
 pub mod laws;
+
+pub use ask_fault::AskFault;

@@ -10,6 +10,7 @@ use crate::words::number::number;
 use crate::words::request::Request;
 use clap::ArgMatches;
 use clap::error::ErrorKind;
+use mal_base::LIMITS;
 use std::alloc::{AllocError, Global};
 
 /// What the words ask for; the first of them is the program's name. None exactly where clap refuses them by the
@@ -26,8 +27,8 @@ pub fn request_of(alloc: Global, words: &[String]) -> Result<Option<Request>, Al
     }
 }
 
-/// What words that the command line refuses ask for: nothing. It is want of memory exactly where the command line wanted
-/// for memory. Takes no memory.
+/// What words that the command line refuses ask for: nothing. It is out of memory exactly where the command line ran
+/// out of memory. Takes no memory.
 fn refused(kind: ErrorKind) -> Result<Option<Request>, AllocError>
     ensures nothing { IfOk result (λ o. (o ≡ None) × (kind ≡ OutOfMemory → ⊥)) }
     ensures memory { OnErr result (kind ≡ OutOfMemory) }
@@ -121,7 +122,7 @@ fn cluster_by(options: &ArgMatches<'_>, halls: u32, workers: u32) -> Option<Requ
 fn max_with(options: &ArgMatches<'_>) -> Option<Request>
     ensures { result ≡ max_form.asks (rows_of (found_of options.now)) }
 {
-    match number_in(options, "slices", 1, 4096) {
+    match number_in(options, "slices", 1, LIMITS.slices) {
         Some(slices) => Some(Request::Max { slices }),
         None => None,
     }
@@ -131,7 +132,7 @@ fn max_with(options: &ArgMatches<'_>) -> Option<Request>
 fn core_with(options: &ArgMatches<'_>) -> Option<Request>
     ensures { result ≡ core_form.asks (rows_of (found_of options.now)) }
 {
-    match number_in(options, "slices", 1, 4096) {
+    match number_in(options, "slices", 1, LIMITS.slices) {
         Some(slices) => Some(Request::Core { slices }),
         None => None,
     }

@@ -1,11 +1,11 @@
-//! An event that was written down, entered behind calls.
+//! An event that was written down, entered after calls.
 
 ghost use Rattle.std.specs.Prelude.{◌≡◌, ◌≤◌, IfSome};
 ghost use Rattle.mal_hall.specs.Applied.{IsInside};
 
 use super::calling::{Told, worked_off, write};
 use super::making::{Posted, ask, name, revision};
-use mal_base::{Ask, Name};
+use mal_base::{Ask, Name, Profile};
 use mal_hall::{Hall, Pick};
 use mal_history::Event;
 use mal_learn::Scratch;
@@ -56,9 +56,9 @@ fn ended(alloc: Global, hall: Hall, known: &[u8]) -> Told {
     told
 }
 
-/// Whether the closing of a job is entered behind that, which makes this history. None where it is refused.
+/// Whether the closing of a job is entered after that, which makes this history. None where it is refused.
 fn is_closed(alloc: Global, known: &[u8]) -> Option<bool> {
-    let (tenant, job, ask) = (name(b"a")?, name(b"p")?, ask(1, 4, 1)?);
+    let (tenant, job, ask) = (name(b"a")?, name(b"p")?, ask(1, 4, Profile::Plain)?);
     let hall = served(alloc, tenant, job, ask)?;
     let event = Event::Close { tenant, job };
     let mut scratch = Scratch::new(alloc);

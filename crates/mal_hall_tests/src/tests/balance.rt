@@ -32,7 +32,7 @@ fn volumes_are_fair(rt: HostRuntime) -> Result<(), Fail> {
     assert!(rt; get(alloc, 8, &[(4, 8), (2, 8), (1, 8)], &[5, 2, 1])?);
     // No job gets more than it asks.
     assert!(rt; get(alloc, 8, &[(7, 2), (7, 8)], &[2, 6])?);
-    // Jobs behind the workers get none.
+    // Jobs after the workers get none.
     assert!(rt; get(alloc, 2, &[(1, 8), (1, 8), (9, 8)], &[1, 1, 0])?);
     // Ties go to the earlier job.
     assert!(rt; get(alloc, 8, &[(4, 8), (2, 8), (4, 8)], &[3, 2, 3])?);

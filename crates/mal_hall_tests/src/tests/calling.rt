@@ -39,7 +39,7 @@ pub(crate) enum Told {
     Other,
     /// There is no such worker, or nothing is kept at that place.
     Absent,
-    /// Memory was wanting for what the call takes.
+    /// Memory ran out for what the call takes.
     Wanting,
 }
 
@@ -87,7 +87,7 @@ pub(crate) fn worked_off(alloc: Global, lease: Lease) -> Done {
     done
 }
 
-/// What comes of a lease for which memory was wanting.
+/// What comes of a lease for which memory ran out.
 pub(crate) fn unrun(lease: Lease) -> Done {
     let worker = lease.worker();
     Done::starved(worker, lease.into_kept(), AllocError)

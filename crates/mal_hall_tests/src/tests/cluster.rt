@@ -1,6 +1,7 @@
 //! Clusters whose histories and refusals are known.
 
 use super::making::{Posted, ask, name, revision};
+use mal_base::Profile;
 use mal_cluster::{Cluster, MoveFault};
 use mal_history::write;
 use mal_learn::Scratch;
@@ -13,7 +14,7 @@ fn open(alloc: Global, cluster: &mut Cluster, hall: u32, job: &[u8]) -> Option<(
     }
     let tenant = name(b"a")?;
     let job = name(job)?;
-    let ask = ask(1, 4, 1)?;
+    let ask = ask(1, 4, Profile::Plain)?;
     cluster.open_job(hall, tenant, job, ask).ok()
 }
 

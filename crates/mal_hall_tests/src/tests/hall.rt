@@ -5,6 +5,7 @@ mod plays;
 
 use super::calling::{P, Told};
 use super::making::Posted;
+use mal_base::Profile;
 use playing::{Call, tried};
 use plays::PLAYS;
 use std::alloc::Global;
@@ -37,7 +38,7 @@ const ANSWERED: &[u8] =
 /// no clause, this is the history of the run, and who expects this reply is told so.
 fn two_nodes<'a>(
     alloc: Global,
-    profile: i64,
+    profile: Profile,
     history: &'a [u8],
     reply: &'a [u8],
     told: Told,
@@ -53,14 +54,14 @@ fn two_nodes<'a>(
 #[test]
 fn two_nodes_go_on_behind_an_exchange(rt: HostRuntime) {
     let spent = b"r a p 1\ns UNKNOWN\nu spent 8\n";
-    assert!(rt; two_nodes(rt.alloc(), 1, SPENT, spent, Told::Done) == 3);
-    assert!(rt; two_nodes(rt.alloc(), 2, ANSWERED, b"", Told::Other) == 3);
+    assert!(rt; two_nodes(rt.alloc(), Profile::Plain, SPENT, spent, Told::Done) == 3);
+    assert!(rt; two_nodes(rt.alloc(), Profile::Lean, ANSWERED, b"", Told::Other) == 3);
 }
 
 /// How many calls are answered as known where of two nodes the one at this place comes back first, and this is the reply.
 fn first_back(alloc: Global, place: usize, reply: &[u8]) -> usize {
     let calls = [
-        (Call::OpenFor(2, 4, 1), Told::Done),
+        (Call::OpenFor(2, 4, Profile::Plain), Told::Done),
         (Call::Revise(P, Posted::Clause(&[1, 2], &[])), Told::Done),
         (Call::Work(1), Told::Done),
         (Call::Work(2), Told::Done),

@@ -5,10 +5,10 @@ ghost use Rattle.mal_base.specs.Formulas.{literals_of};
 ghost use Rattle.spec_inquiry.specs.Rounds.{IsInquiry};
 
 use super::making::{Posted, ask, name, revision};
-use mal_base::{Ask, Name};
-use mal_inquiry::Inquiry;
+use mal_base::{Ask, Name, Profile};
+use mal_inquiry::{Finding, Inquiry};
 use mal_learn::Scratch;
-use mal_report::{Told, reply};
+use mal_report::{Cause, Told, reply};
 use mal_revision::Revision;
 use std::alloc::{AllocError, Global};
 
@@ -20,8 +20,47 @@ fn is_small(revision: &Revision) -> bool
     revision.clauses().len() <= 1000 && revision.literals() <= 1000
 }
 
+/// What is told of a revision of which this is found.
+fn told_by(alloc: Global, inquiry: &Inquiry, r: u32, found: Finding) -> Result<Told, AllocError> {
+    match found {
+        Finding::Model(model) => Ok(Told::Model(model)),
+        Finding::Failed(failed) => match inquiry.lines(alloc, r) {
+            Ok(lines) => Ok(Told::Proof { failed, lines }),
+            Err(error) => {
+                drop(failed);
+                Err(error)
+            }
+        },
+        Finding::Unknown(Cause::Spent(slices)) => Ok(Told::Spent(slices)),
+        Finding::Unknown(Cause::Starved) => Ok(Told::Starved),
+    }
+}
+
+/// What is told of both revisions of an inquiry, of which this is found.
+fn both_told(
+    alloc: Global,
+    inquiry: &Inquiry,
+    found: Finding,
+    later: Finding,
+) -> Result<(Told, Told), AllocError> {
+    match told_by(alloc, inquiry, 1, found) {
+        Ok(first) => match told_by(alloc, inquiry, 2, later) {
+            Ok(second) => Ok((first, second)),
+            Err(error) => {
+                drop(first);
+                Err(error)
+            }
+        },
+        Err(error) => {
+            drop(later);
+            Err(error)
+        }
+    }
+}
+
 /// What an inquiry without a round is told of two small revisions.
 fn ask_both(
+    alloc: Global,
     inquiry: &mut Inquiry,
     ask: Ask,
     first: Revision,
@@ -35,10 +74,10 @@ fn ask_both(
     requires second_literals { literals_of second.clauses ≤ 1000 }
 {
     match inquiry.ask(first, scratch) {
-        Ok(told) => match inquiry.ask(second, scratch) {
-            Ok(later) => Ok((told, later)),
+        Ok(found) => match inquiry.ask(second, scratch) {
+            Ok(later) => both_told(alloc, inquiry, found, later),
             Err(error) => {
-                drop(told);
+                drop(found);
                 Err(error)
             }
         },
@@ -67,7 +106,7 @@ fn asked_twice(
         Ok(begun) => {
             let mut inquiry = begun;
             let mut scratch = Scratch::new(alloc);
-            let told = ask_both(&mut inquiry, ask, first, second, &mut scratch);
+            let told = ask_both(alloc, &mut inquiry, ask, first, second, &mut scratch);
             drop(scratch);
             drop(inquiry);
             told
@@ -80,7 +119,7 @@ fn asked_twice(
     }
 }
 
-/// The same where both are small. None where one is not, and where memory is wanting.
+/// The same where both are small. None where one is not, and where memory runs out.
 fn told_if_small(
     alloc: Global,
     tenant: Name,
@@ -101,7 +140,7 @@ fn told_if_small(
 
 /// What an inquiry is told that has so many slices for each of two revisions.
 fn told_of(alloc: Global, slices: i64, posted: (Posted, Posted)) -> Option<(Told, Told)> {
-    let (tenant, job, ask) = (name(b"a")?, name(b"p")?, ask(1, slices, 1)?);
+    let (tenant, job, ask) = (name(b"a")?, name(b"p")?, ask(1, slices, Profile::Plain)?);
     let first = revision(alloc, posted.0)?;
     match revision(alloc, posted.1) {
         Some(second) => told_if_small(alloc, tenant, job, ask, first, second),
@@ -114,7 +153,7 @@ fn told_of(alloc: Global, slices: i64, posted: (Posted, Posted)) -> Option<(Told
 
 /// Whether the reply to a revision that tells this is this text.
 fn reads(alloc: Global, r: u32, told: &Told, known: &[u8]) -> Option<bool> {
-    let text = reply(alloc, &name(b"a")?, &name(b"p")?, r, 1, told).ok()?;
+    let text = reply(alloc, &name(b"a")?, &name(b"p")?, r, Profile::Plain, told).ok()?;
     let is_known = text.as_slice() == known;
     drop(text);
     Some(is_known)

@@ -2,6 +2,7 @@
 
 use super::calling::{P, Told, given, open, pick, revise, unrun, worked_off};
 use super::making::{Posted, ask};
+use mal_base::Profile;
 use mal_hall::Hall;
 use mal_suspend::{Done, Kept};
 use std::alloc::Global;
@@ -25,7 +26,7 @@ fn is_gone(done: &Done) -> bool {
     }
 }
 
-/// Whether the node of the lease that worker 1 picks is gone. The lease is given back as one that wanted for memory, so
+/// Whether the node of the lease that worker 1 picks is gone. The lease is given back as one that ran out of memory, so
 /// that its node is as it was.
 fn look(hall: &mut Hall) -> Option<bool> {
     let done = unrun(pick(hall, 1).ok()?);
@@ -57,7 +58,7 @@ fn slice(alloc: Global, hall: &mut Hall) -> Option<bool> {
     }
 }
 
-/// Looks at two leases, and counts those whose node is gone. A third that wants for memory would leave the revision
+/// Looks at two leases, and counts those whose node is gone. A third that runs out of memory would leave the revision
 /// unknown.
 fn look_twice(hall: &mut Hall, counts: &mut Counts) -> Option<()> {
     for _ in 0..2 {
@@ -86,7 +87,7 @@ fn go_round(alloc: Global, hall: &mut Hall, counts: &mut Counts) -> Option<()> {
 /// Opens a job of demand 2, and goes all rounds.
 fn go_all(alloc: Global, hall: &mut Hall) -> Option<Counts> {
     let mut counts = Counts { gone: 0, slices: 0 };
-    if open(alloc, hall, P, ask(2, 8, 1)) != Told::Done {
+    if open(alloc, hall, P, ask(2, 8, Profile::Plain)) != Told::Done {
         return None;
     }
     for _ in 0..ROUNDS {

@@ -1,6 +1,6 @@
 //! Names, asks and revisions that tests post.
 
-use mal_base::{Ask, Clause, ClauseList, Lit, Name};
+use mal_base::{Ask, Clause, ClauseList, Lit, Name, Profile};
 use mal_revision::Revision;
 use std::alloc::Global;
 
@@ -26,8 +26,8 @@ pub(crate) fn numbered(n: u8) -> [u8; 2] {
     [b'a' + n / 26, b'a' + n % 26]
 }
 
-pub(crate) fn ask(demand: i64, slices: i64, profile: i64) -> Option<Ask> {
-    Ask::of(1, demand, slices)?.with_profile(profile)
+pub(crate) fn ask(demand: i64, slices: i64, profile: Profile) -> Option<Ask> {
+    Some(Ask::of(1, demand, slices)?.with_profile(profile))
 }
 
 fn lits(alloc: Global, numbers: &[i32]) -> Option<Vec<Lit>> {

@@ -1,7 +1,7 @@
 //! Jobs that are packed, or may not be, and go on in another hall.
 
 use super::making::{Posted, ask, name, revision};
-use mal_base::PackFault;
+use mal_base::{PackFault, Profile};
 use mal_hall::{Hall, Pick};
 use mal_learn::Scratch;
 use std::alloc::Global;
@@ -10,7 +10,7 @@ use std::alloc::Global;
 fn open(hall: &mut Hall) -> Option<()> {
     let tenant = name(b"a")?;
     let job = name(b"p")?;
-    let ask = ask(1, 4, 1)?;
+    let ask = ask(1, 4, Profile::Plain)?;
     hall.open_job(tenant, job, ask).ok()
 }
 

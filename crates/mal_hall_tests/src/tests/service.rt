@@ -5,7 +5,7 @@ ghost use Rattle.mal_turn.specs.Tokens.{IsOf};
 
 use super::calling::{FREE_REPLY, Told, given, heard, pick, worked_off, write};
 use super::making::{ask, name};
-use mal_base::{ClauseList, ReplyFault};
+use mal_base::{ClauseList, Profile, ReplyFault};
 use mal_hall::{Hall, Pick, PickFault, Post};
 use mal_revision::Revision;
 use mal_service::{Pass, Service, Size};
@@ -43,7 +43,7 @@ fn opening(tenant: &[u8]) -> Option<Post> {
     Some(Post::Open {
         tenant: name(tenant)?,
         job: name(b"p")?,
-        ask: ask(1, 4, 1)?,
+        ask: ask(1, 4, Profile::Plain)?,
     })
 }
 

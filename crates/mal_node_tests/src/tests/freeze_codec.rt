@@ -2,13 +2,13 @@
 
 ghost use Rattle.std.specs.Prelude.{◌≤◌};
 
-use mal_base::{Clause, ClauseId, NumberedClause, TrailEntry, Var};
+use mal_base::{Clause, ClauseId, NumberedClause, Profile, TrailEntry, Var};
 use mal_freeze::{Image, Parts, ThawFault, freeze, thaw};
 use std::alloc::Global;
 
 /// The parts of the node of index 0 and of this profile at its first start, but that so many conflicts count for the next
 /// dropping.
-fn fresh_parts(alloc: Global, profile: u32, conflicts_since_dropping: u32) -> Parts {
+fn fresh_parts(alloc: Global, profile: Profile, conflicts_since_dropping: u32) -> Parts {
     Parts {
         index: 0,
         profile,
@@ -47,7 +47,7 @@ fn bytes_of(alloc: Global, parts: Parts) -> Option<Vec<u8>> {
 
 /// The bytes of the node of index 0 and profile 1 at its first start.
 fn fresh_bytes(alloc: Global) -> Option<Vec<u8>> {
-    bytes_of(alloc, fresh_parts(alloc, 1, 0))
+    bytes_of(alloc, fresh_parts(alloc, Profile::Plain, 0))
 }
 
 /// Whether parts are in no form, if memory is there.
@@ -101,17 +101,16 @@ fn come_again(alloc: Global, bytes: &[u8]) -> Option<bool> {
     Some(are_same)
 }
 
-/// Profiles, how many conflicts count for the next dropping, and whether a node may have them: under profile 1 none count,
-/// and there is no third profile.
-const COUNTED: [(u32, u32, bool); 4] = [
-    (1, 0, true),
-    (1, 1, false),
-    (2, 1792, true),
-    (3, 0, false),
+/// Profiles, how many conflicts count for the next dropping, and whether a node may have them: under profile 1 none
+/// count.
+const COUNTED: [(Profile, u32, bool); 3] = [
+    (Profile::Plain, 0, true),
+    (Profile::Plain, 1, false),
+    (Profile::Lean, 1792, true),
 ];
 
 /// Whether there is a node of a profile with so many conflicts where it is to be one, and none where not.
-fn is_counted(alloc: Global, profile: u32, conflicts: u32, is_image: bool) -> bool {
+fn is_counted(alloc: Global, profile: Profile, conflicts: u32, is_image: bool) -> bool {
     let parts = fresh_parts(alloc, profile, conflicts);
     if !is_image {
         return are_formless(alloc, parts);
@@ -126,7 +125,7 @@ fn is_counted(alloc: Global, profile: u32, conflicts: u32, is_image: bool) -> bo
 }
 
 #[test]
-fn conflicts_count_for_a_dropping_under_profile_2(rt: HostRuntime) {
+fn conflicts_count_for_a_dropping_where_the_profile_reduces(rt: HostRuntime) {
     for (profile, conflicts, is_image) in &COUNTED {
         assert!(rt; is_counted(rt.alloc(), *profile, *conflicts, *is_image));
     }
@@ -134,7 +133,7 @@ fn conflicts_count_for_a_dropping_under_profile_2(rt: HostRuntime) {
 
 /// Whether the conflicts since the last dropping stand in their place, and come back.
 fn conflicts_come_back(alloc: Global) -> Option<bool> {
-    let bytes = bytes_of(alloc, fresh_parts(alloc, 2, 1792))?;
+    let bytes = bytes_of(alloc, fresh_parts(alloc, Profile::Lean, 1792))?;
     let are_there = bytes.get(33..36) == Some([0, 7, 0].as_slice());
     let come = come_again(alloc, bytes.as_slice());
     drop(bytes);
@@ -183,9 +182,10 @@ fn have_faults(alloc: Global, bytes: &[u8], known: &[(usize, u8, ThawFault)]) ->
     true
 }
 
-/// Places of the bytes of the fresh node, with a byte there and its fault.
-const FRESH_FAULTS: [(usize, u8, ThawFault); 2] = [
+/// Places of the bytes of the fresh node, with a byte there and its fault: there is no third profile.
+const FRESH_FAULTS: [(usize, u8, ThawFault); 3] = [
     (0, b'm', ThawFault::BadMagic),
+    (7, b'3', ThawFault::BadMagic),
     (11, 64, ThawFault::BadField { place: 8 }),
 ];
 
@@ -220,7 +220,7 @@ fn each_fault_has_its_text(rt: HostRuntime) {
     assert!(rt; has_text(rt.alloc(), ThawFault::OutOfMemory, b"out of memory"));
 }
 
-/// The fault of the bytes of the fresh node with one behind them.
+/// The fault of the bytes of the fresh node with one after them.
 fn fault_of_longer(alloc: Global) -> Option<ThawFault> {
     let mut longer = fresh_bytes(alloc)?;
     let is_longer = longer.push(0).is_ok();
@@ -276,7 +276,7 @@ fn fill(alloc: Global, parts: &mut Parts) -> Option<()> {
 
 /// The parts of a node of two variables that has two assumptions, two entries on its trail, and two clauses.
 fn node_parts(alloc: Global) -> Option<Parts> {
-    let mut parts = fresh_parts(alloc, 1, 0);
+    let mut parts = fresh_parts(alloc, Profile::Plain, 0);
     parts.variables = 2;
     parts.processed = 3;
     if fill(alloc, &mut parts).is_some() {

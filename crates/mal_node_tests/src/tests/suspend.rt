@@ -1,22 +1,17 @@
 //! Nodes that are frozen, and entries of journals.
 
-ghost use Rattle.std.specs.Prelude.{◌≤◌};
-
-use mal_base::ClauseList;
+use mal_base::{ClauseList, Profile};
 use mal_revision::Revision;
 use mal_suspend::{Entry, Journal, Suspended, rebuild};
 use std::alloc::Global;
 use std::sync::Arc;
 
 /// Node 0 of this profile before its first start.
-fn fresh(alloc: Global, profile: u32) -> Suspended
-    requires some { 1 ≤ profile }
-    requires bound { profile ≤ 2 }
-{
+fn fresh(alloc: Global, profile: Profile) -> Suspended {
     Suspended::fresh(alloc, 7, profile, 0)
 }
 
-/// How many bytes a node has, frozen. None where memory is wanting.
+/// How many bytes a node has, frozen. None where memory runs out.
 pub fn frozen_len(suspended: Suspended) -> Option<usize> {
     match suspended.freeze() {
         Err(back) => {
@@ -33,20 +28,17 @@ pub fn frozen_len(suspended: Suspended) -> Option<usize> {
 
 #[test]
 fn a_fresh_node_is_frozen_to_65_bytes_or_69(rt: HostRuntime) {
-    assert!(rt; frozen_len(fresh(rt.alloc(), 1)) == Some(65));
-    assert!(rt; frozen_len(fresh(rt.alloc(), 2)) == Some(69));
+    assert!(rt; frozen_len(fresh(rt.alloc(), Profile::Plain)) == Some(65));
+    assert!(rt; frozen_len(fresh(rt.alloc(), Profile::Lean)) == Some(69));
 }
 
 /// The journal of node 0 of this profile before its first start.
-fn journal(alloc: Global, profile: u32) -> Journal
-    requires some { 1 ≤ profile }
-    requires bound { profile ≤ 2 }
-{
+fn journal(alloc: Global, profile: Profile) -> Journal {
     Journal::new(alloc, 7, profile, 0)
 }
 
 /// Whether a journal is of this profile, and a copy of it is the same.
-fn is_copied(journal: &Journal, profile: u32) -> Option<bool> {
+fn is_copied(journal: &Journal, profile: Profile) -> Option<bool> {
     let copy = journal.copy().ok()?;
     let is_same = copy.same(journal);
     drop(copy);
@@ -55,7 +47,7 @@ fn is_copied(journal: &Journal, profile: u32) -> Option<bool> {
 
 /// Whether the journal of another profile is the same.
 fn is_same_as_first(alloc: Global, second: &Journal) -> bool {
-    let first = journal(alloc, 1);
+    let first = journal(alloc, Profile::Plain);
     let is_same = first.same(second);
     drop(first);
     is_same
@@ -63,8 +55,8 @@ fn is_same_as_first(alloc: Global, second: &Journal) -> bool {
 
 /// Whether the journal of profile 2 is copied, and differs from that of profile 1.
 fn second_is_told(alloc: Global) -> Option<bool> {
-    let second = journal(alloc, 2);
-    let copied = is_copied(&second, 2);
+    let second = journal(alloc, Profile::Lean);
+    let copied = is_copied(&second, Profile::Lean);
     let is_same = is_same_as_first(alloc, &second);
     drop(second);
     Some(copied? && !is_same)
@@ -87,7 +79,7 @@ fn rebuilt_len(alloc: Global, journal: &Journal) -> Option<usize> {
 
 /// The same of the journal of profile 2.
 fn second_rebuilt_len(alloc: Global) -> Option<usize> {
-    let journal = journal(alloc, 2);
+    let journal = journal(alloc, Profile::Lean);
     let len = rebuilt_len(alloc, &journal);
     drop(journal);
     len

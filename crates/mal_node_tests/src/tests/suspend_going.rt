@@ -44,14 +44,14 @@ fn not_both(alloc: Global, one: i32, other: i32, hole: i32) -> Option<Option<Cla
     Clause::of_lits(alloc, &[left.negate(), right.negate()]).ok()
 }
 
-/// Puts a clause behind others.
+/// Puts a clause after others.
 fn push(clauses: &mut ClauseList, clause: Option<Clause>) -> Option<()> {
     let pushed = clauses.push(&clause);
     drop(clause);
     pushed.ok()
 }
 
-/// Puts the clauses that a pigeon has a hole, and none of those before it, behind others.
+/// Puts the clauses that a pigeon has a hole, and none of those before it, after others.
 fn push_pigeon(alloc: Global, clauses: &mut ClauseList, one: i32) -> Option<()> {
     push(clauses, some_hole(alloc, one)?)?;
     for other in 0..one {
@@ -62,7 +62,7 @@ fn push_pigeon(alloc: Global, clauses: &mut ClauseList, one: i32) -> Option<()> 
     Some(())
 }
 
-/// Puts the clauses that each pigeon has a hole of its own behind others.
+/// Puts the clauses that each pigeon has a hole of its own after others.
 fn push_pigeons(alloc: Global, clauses: &mut ClauseList) -> Option<()> {
     for one in 0..PIGEONS {
         push_pigeon(alloc, clauses, one)?;

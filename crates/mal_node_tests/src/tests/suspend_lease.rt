@@ -2,11 +2,12 @@
 //! that are thawed.
 
 ghost use Rattle.std.specs.Prelude.{◌≡◌, [], IfOk};
+ghost use Rattle.mal_base.specs.declared.profile.Profile.TheVariants.{Plain};
 ghost use Rattle.spec_job.specs.Journal.{replay};
 ghost use Rattle.mal_suspend.specs.{Kept.{journal_of}, Replaying.{MayAllReplay}, Starting.{shared_loads, start_entries}};
 
 use super::suspend::frozen_len;
-use mal_base::ClauseList;
+use mal_base::{ClauseList, Profile};
 use mal_learn::Scratch;
 use mal_revision::Revision;
 use mal_suspend::{Entries, FROZEN_BYTES, Frozen, Journal, Kept, Lease, Suspended};
@@ -15,7 +16,7 @@ use std::sync::Arc;
 
 /// The load of a shared revision at the first start of a node.
 fn loads_of(alloc: Global, revision: Arc<Revision>) -> Result<Vec<(Arc<Revision>, u32)>, AllocError>
-    ensures { IfOk result (λ v. MayAllReplay (replay 1 0 []) (start_entries (shared_loads v.items) [])) }
+    ensures { IfOk result (λ v. MayAllReplay (replay Plain 0 []) (start_entries (shared_loads v.items) [])) }
 {
     if revision.clauses().len() > 1000 {
         return Err(AllocError);
@@ -33,8 +34,8 @@ fn refusal(back: (Kept, AllocError)) -> AllocError {
 
 /// The first start of node 0, with these loads.
 fn first(alloc: Global, kept: Kept, loads: Vec<(Arc<Revision>, u32)>) -> Result<Lease, AllocError>
-    requires journal { journal_of kept ≡ record { job = 7; profile = 1; index = 0; start = 0; entries = [] } }
-    requires loads { MayAllReplay (replay 1 0 []) (start_entries (shared_loads loads.items) []) }
+    requires journal { journal_of kept ≡ record { job = 7; profile = Plain; index = 0; start = 0; entries = [] } }
+    requires loads { MayAllReplay (replay Plain 0 []) (start_entries (shared_loads loads.items) []) }
 {
     match Lease::new(kept, loads, Vec::new(alloc), 3, 0) {
         Err(back) => Err(refusal(back)),
@@ -65,8 +66,8 @@ fn first_bytes(
     kept: Kept,
     loads: Vec<(Arc<Revision>, u32)>,
 ) -> Result<usize, AllocError>
-    requires journal { journal_of kept ≡ record { job = 7; profile = 1; index = 0; start = 0; entries = [] } }
-    requires loads { MayAllReplay (replay 1 0 []) (start_entries (shared_loads loads.items) []) }
+    requires journal { journal_of kept ≡ record { job = 7; profile = Plain; index = 0; start = 0; entries = [] } }
+    requires loads { MayAllReplay (replay Plain 0 []) (start_entries (shared_loads loads.items) []) }
 {
     let lease = first(alloc, kept, loads)?;
     let mut scratch = Scratch::new(alloc);
@@ -84,14 +85,14 @@ fn shared(alloc: Global, variables: u32) -> Option<Arc<Revision>> {
 /// How many bytes are kept of node 0, which was live, after a first start with so many variables.
 fn live_bytes(alloc: Global, variables: u32) -> Option<usize> {
     let loads = loads_of(alloc, shared(alloc, variables)?).ok()?;
-    let kept = Kept::Live(Suspended::fresh(alloc, 7, 1, 0));
+    let kept = Kept::Live(Suspended::fresh(alloc, 7, Profile::Plain, 0));
     first_bytes(alloc, kept, loads).ok()
 }
 
 /// How many bytes are kept of node 0, which was gone, after a first start with so many variables.
 fn rebuilt_bytes(alloc: Global, variables: u32) -> Option<usize> {
     let loads = loads_of(alloc, shared(alloc, variables)?).ok()?;
-    let kept = Kept::Gone(Journal::new(alloc, 7, 1, 0));
+    let kept = Kept::Gone(Journal::new(alloc, 7, Profile::Plain, 0));
     first_bytes(alloc, kept, loads).ok()
 }
 
@@ -111,7 +112,7 @@ fn a_late_lease_and_the_one_after_it_are_frozen(rt: HostRuntime) {
 }
 
 /// How many bytes a frozen node has that is thawed and frozen again, or that comes back where the thaw is refused. None
-/// where memory is wanting for the second freeze.
+/// where memory runs out for the second freeze.
 fn thawed_len(frozen: Frozen) -> Option<usize> {
     match frozen.thaw() {
         Err((frozen, _)) => {
@@ -125,7 +126,7 @@ fn thawed_len(frozen: Frozen) -> Option<usize> {
 
 /// The same of the fresh node 0.
 fn fresh_len(alloc: Global) -> Option<usize> {
-    match Suspended::fresh(alloc, 7, 1, 0).freeze() {
+    match Suspended::fresh(alloc, 7, Profile::Plain, 0).freeze() {
         Ok(frozen) => thawed_len(frozen),
         Err(back) => {
             drop(back);
@@ -150,7 +151,7 @@ fn journal_after(lease: Lease, scratch: &mut Scratch) -> Option<Journal> {
 /// The journal of node 0 after its first start, which loads a revision of two variables.
 fn first_journal(alloc: Global) -> Option<Journal> {
     let loads = loads_of(alloc, shared(alloc, 2)?).ok()?;
-    let kept = Kept::Live(Suspended::fresh(alloc, 7, 1, 0));
+    let kept = Kept::Live(Suspended::fresh(alloc, 7, Profile::Plain, 0));
     let lease = first(alloc, kept, loads).ok()?;
     let mut scratch = Scratch::new(alloc);
     let journal = journal_after(lease, &mut scratch);
@@ -158,7 +159,7 @@ fn first_journal(alloc: Global) -> Option<Journal> {
     journal
 }
 
-/// How many entries of a journal are listed, and how many slices are counted behind them.
+/// How many entries of a journal are listed, and how many slices are counted after them.
 fn counts_of(journal: &Journal) -> (usize, u64) {
     let (counted, slices) = journal.entries().parts();
     (counted.len(), slices)
@@ -174,7 +175,7 @@ fn are_copied(alloc: Global, journal: &Journal) -> Option<bool> {
     Some(are_same)
 }
 
-/// Whether the journal of the first start lists its load, counts the slice behind it, and is copied.
+/// Whether the journal of the first start lists its load, counts the slice after it, and is copied.
 fn first_is_journaled(alloc: Global) -> Option<bool> {
     let journal = first_journal(alloc)?;
     let are_counted = counts_of(&journal) == (1, 1);

@@ -104,7 +104,7 @@ fn an_original_clause_is_held(rt: HostRuntime) {
 }
 
 /// What a checker of the four clauses answers to two clauses whose numbers are far apart, which it takes, and to two
-/// lines behind them.
+/// lines after them.
 fn far_apart_answer(
     alloc: Global,
     lines: [&[u8]; 2],

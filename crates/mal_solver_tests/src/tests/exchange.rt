@@ -1,9 +1,9 @@
 //! Trees whose broadcast is known.
 
 use super::values::counted;
-use mal_base::ClauseId;
+use mal_base::{ClauseId, NumberedClause};
 use mal_buffer::Buffer;
-use mal_exchange::up;
+use mal_exchange::{broadcast, up};
 use std::alloc::Global;
 
 /// The buffer of the clause of so many variables from this one on, under this number.
@@ -64,4 +64,37 @@ fn told_to_all(alloc: Global) -> Option<usize> {
 fn the_64_solvers_of_a_tree_tell_1500_literals(rt: HostRuntime) {
     // 64 clauses of 12 literals, and 45 of 16
     assert!(rt; told_to_all(rt.alloc()) == Some(109));
+}
+
+/// The clause of so many variables from this one on, under this number.
+fn numbered(alloc: Global, first: i32, size: i32, id: ClauseId) -> Option<NumberedClause> {
+    let clause = counted(alloc, first, size)?;
+    Some(NumberedClause::new(id, clause))
+}
+
+/// How many clauses are broadcast of three, of which two have the same literals, and the numbers of the first and of
+/// the last one.
+fn broadcast_of_three(alloc: Global) -> Option<(usize, u64, u64)> {
+    let mut entries = Vec::new(alloc);
+    entries
+        .push(numbered(alloc, 1, 2, ClauseId::original(7))?)
+        .ok()?;
+    entries
+        .push(numbered(alloc, 3, 1, ClauseId::original(5))?)
+        .ok()?;
+    entries
+        .push(numbered(alloc, 1, 2, ClauseId::original(4))?)
+        .ok()?;
+    let told = broadcast(entries);
+    let (first, last) = (told.entries().first()?, told.entries().last()?);
+    Some((
+        told.entries().len(),
+        first.id().number(),
+        last.id().number(),
+    ))
+}
+
+#[test]
+fn clauses_are_broadcast_once_and_the_shorter_ones_first(rt: HostRuntime) {
+    assert!(rt; broadcast_of_three(rt.alloc()) == Some((2, 5, 4)));
 }

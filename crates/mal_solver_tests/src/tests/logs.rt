@@ -45,7 +45,7 @@ fn enter(alloc: Global, log: &mut Log, number: u64, numbers: &[i32], hints: &[u6
     append(log, id, lits.as_slice(), hints.as_slice())
 }
 
-/// What is trimmed of a log for a goal, numbered behind so many original clauses.
+/// What is trimmed of a log for a goal, numbered after so many original clauses.
 fn proof(alloc: Global, log: &Log, goal: u64, originals: u64) -> Option<Lines> {
     if originals >= 1 << 32 {
         return None;

@@ -82,7 +82,7 @@ fn clauses_stand_by_rising_number(rt: HostRuntime) {
     assert!(rt; stand(rt.alloc(), &rows) == Some([true; 2]));
 }
 
-/// Four clauses, of which two are forgotten, whose literals stand before, between and behind those of the others.
+/// Four clauses, of which two are forgotten, whose literals stand before, between and after those of the others.
 const FOUR: [Row<'static>; 4] = [
     (4_294_967_299, &[1, -2]),
     (5, &[-2, 3]),

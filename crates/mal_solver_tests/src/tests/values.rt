@@ -1,4 +1,4 @@
-//! Values by their numbers in texts, none where a number is out of range or memory is wanting.
+//! Values by their numbers in texts, none where a number is out of range or memory runs out.
 
 use mal_base::{Clause, ClauseId, Lit};
 use std::alloc::Global;

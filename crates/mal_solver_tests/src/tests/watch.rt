@@ -73,7 +73,7 @@ fn decide_one(
     Some((count_known(entries, known), entries.len()))
 }
 
-/// Adds one clause behind a trail and one after a cut, and takes the decision that was cut away again. The conflict, if
+/// Adds one clause after a trail and one after a cut, and takes the decision that was cut away again. The conflict, if
 /// there is one.
 fn decide_behind(both: &mut Both, alloc: Global) -> Option<Option<ClauseId>> {
     decide(both, -1)?;
@@ -124,11 +124,11 @@ enum Play<'a> {
     /// Adds clauses, gives some up and decides 1: how many entries of the trail are as they are known, and how many there
     /// are.
     DecideOne(&'a [Row<'a>], &'a [u64], &'a [Entry]),
-    /// Adds a clause behind a trail: the number of the conflict, and how many entries there are.
+    /// Adds a clause after a trail: the number of the conflict, and how many entries there are.
     Behind,
     /// Has clauses lent: how many are, and how many are held.
     Lend,
-    /// Takes random steps of this seed: how many conflicts there are, and how many entries behind all steps.
+    /// Takes random steps of this seed: how many conflicts there are, and how many entries after all steps.
     Walk(u16),
 }
 

@@ -1,84 +1,33 @@
-//! Scripts that threads run over a hall under a lock, and over a service.
+//! Scripts that threads run over a service.
 
 ghost use Rattle.std.specs.Prelude.{◌≡◌, ◌≤◌, IfOk};
 ghost use Rattle.mal_pool.specs.Posts.{HasRun};
+ghost use Rattle.mal_turn.specs.Tokens.{IsOf};
 
 use super::gates::{Together, has_replied};
 use super::scripts::{Answered, FOUR_JOBS, FOUR_TENANTS, TWO_JOBS};
-use mal_cli::run_served;
-use mal_hall::{Hall, Post};
-use mal_pool::{Gate, HallBox, OwnCalls, PlainGate, Shared, Size, run_all, run_with};
-use mal_script::{Script, read};
+use mal_hall::{Hall, Post, Size};
+use mal_pool::{PlainGate, Served, run_all, run_with};
+use mal_script::{Script, ScriptJob, read};
+use mal_service::{Pass, Service};
 use std::alloc::{AllocError, Global};
 use std::marker::Brand;
 use std::sync::Wait;
 use std::thread::Threads;
 
-/// How threads share a hall.
-#[derive(Clone, Copy)]
-enum Sharing {
-    Lock,
-    Service,
-}
-
-/// Workers, two at least, and how they share a hall.
-#[derive(Clone, Copy)]
-struct Team {
-    sharing: Sharing,
-    workers: u32,
-}
-
-impl Team {
-    fn locking(workers: u32) -> Team
-        ensures { result.workers ≡ workers }
-    {
-        Team {
-            sharing: Sharing::Lock,
-            workers,
-        }
-    }
-
-    fn serving(workers: u32) -> Team
-        ensures { result.workers ≡ workers }
-    {
-        Team {
-            sharing: Sharing::Service,
-            workers,
-        }
-    }
-
-    /// Runs a script.
-    fn run<R: Threads + Wait + Sync, G: Gate>(
-        self,
-        rt: &R,
-        alloc: Global,
-        script: &Script,
-        gate: &G,
-    ) -> Result<Hall, AllocError>
-        requires some { 2 ≤ self.workers }
-        requires bound { self.workers ≤ 64 }
-        ensures { IfOk result (λ h. HasRun self.workers script.now h) }
-    {
-        match self.sharing {
-            Sharing::Lock => run_all(rt, alloc, script, self.workers, gate),
-            Sharing::Service => run_served(rt, alloc, script, self.workers, gate),
-        }
-    }
-}
-
 /// Whether as many jobs of demand 1 as there are workers start together: their first slices wait for one another, so no
-/// worker has the lock or the turn while it works.
+/// worker has the turn while it works.
 fn holds_together<R: Threads + Wait + Sync>(
     rt: &R,
     alloc: Global,
-    team: Team,
+    workers: u32,
     script: &Script,
 ) -> Option<bool>
-    requires some { 2 ≤ team.workers }
-    requires bound { team.workers ≤ 64 }
+    requires some { 1 ≤ workers }
+    requires bound { workers ≤ 64 }
 {
-    let gate = Together::of(u64::from(team.workers));
-    let hall = team.run(rt, alloc, script, &gate).ok()?;
+    let gate = Together::of(u64::from(workers));
+    let hall = run_all(rt, alloc, script, workers, &gate).ok()?;
     let has_held = gate.has_held(hall.history());
     drop(hall);
     Some(has_held)
@@ -88,14 +37,14 @@ fn holds_together<R: Threads + Wait + Sync>(
 fn start_together<R: Threads + Wait + Sync>(
     rt: &R,
     alloc: Global,
-    team: Team,
+    workers: u32,
     text: &[u8],
 ) -> Option<bool>
-    requires some { 2 ≤ team.workers }
-    requires bound { team.workers ≤ 64 }
+    requires some { 1 ≤ workers }
+    requires bound { workers ≤ 64 }
 {
     let script = read(alloc, text).ok()?;
-    let has_held = holds_together(rt, alloc, team, &script);
+    let has_held = holds_together(rt, alloc, workers, &script);
     drop(script);
     has_held
 }
@@ -103,61 +52,39 @@ fn start_together<R: Threads + Wait + Sync>(
 #[test]
 fn workers_start_before_one_finishes(rt: HostRuntime) {
     let alloc = rt.alloc();
-    assert!(rt; start_together(&rt, alloc, Team::locking(2), TWO_JOBS) == Some(true));
-    assert!(rt; start_together(&rt, alloc, Team::locking(4), FOUR_JOBS) == Some(true));
-    assert!(rt; start_together(&rt, alloc, Team::serving(4), FOUR_JOBS) == Some(true));
+    assert!(rt; start_together(&rt, alloc, 2, TWO_JOBS) == Some(true));
+    assert!(rt; start_together(&rt, alloc, 4, FOUR_JOBS) == Some(true));
 }
 
-/// Whether a team that runs a script replies like this, and loses no lease.
-fn team_replies<R: Threads + Wait + Sync>(
+/// Whether workers who run a script reply like this, and lose no lease.
+fn run_replies<R: Threads + Wait + Sync>(
     rt: &R,
     alloc: Global,
-    team: Team,
+    workers: u32,
     script: &Script,
     known: &[u8],
 ) -> Option<bool>
-    requires some { 2 ≤ team.workers }
-    requires bound { team.workers ≤ 64 }
+    requires some { 1 ≤ workers }
+    requires bound { workers ≤ 64 }
 {
-    let hall = team.run(rt, alloc, script, &PlainGate).ok()?;
+    let hall = run_all(rt, alloc, script, workers, &PlainGate).ok()?;
     let is_known = has_replied(alloc, &hall, script, known);
     drop(hall);
     Some(is_known)
 }
 
-/// Whether a team replies to a script as it is known.
+/// Whether workers reply to a script as it is known.
 fn reply_alike<R: Threads + Wait + Sync>(
     rt: &R,
     alloc: Global,
-    team: Team,
+    workers: u32,
     known: Answered,
 ) -> Option<bool>
-    requires some { 2 ≤ team.workers }
-    requires bound { team.workers ≤ 64 }
+    requires some { 1 ≤ workers }
+    requires bound { workers ≤ 64 }
 {
     let script = read(alloc, known.script).ok()?;
-    let is_known = team_replies(rt, alloc, team, &script, known.replies);
-    drop(script);
-    is_known
-}
-
-/// Whether one worker, who shares the hall with nobody, replies to a script like this, and loses no lease.
-fn one_replies<R: Threads + Wait + Sync>(
-    rt: &R,
-    alloc: Global,
-    script: &Script,
-    known: &[u8],
-) -> Option<bool> {
-    let hall = run_all(rt, alloc, script, 1, &PlainGate).ok()?;
-    let is_known = has_replied(alloc, &hall, script, known);
-    drop(hall);
-    Some(is_known)
-}
-
-/// Whether one worker replies to a script as it is known.
-fn reply_alone<R: Threads + Wait + Sync>(rt: &R, alloc: Global, known: Answered) -> Option<bool> {
-    let script = read(alloc, known.script).ok()?;
-    let is_known = one_replies(rt, alloc, &script, known.replies);
+    let is_known = run_replies(rt, alloc, workers, &script, known.replies);
     drop(script);
     is_known
 }
@@ -165,9 +92,9 @@ fn reply_alone<R: Threads + Wait + Sync>(rt: &R, alloc: Global, known: Answered)
 #[test]
 fn any_number_of_workers_replies_alike(rt: HostRuntime) {
     let alloc = rt.alloc();
-    assert!(rt; reply_alone(&rt, alloc, FOUR_TENANTS) == Some(true));
-    assert!(rt; reply_alike(&rt, alloc, Team::locking(4), FOUR_TENANTS) == Some(true));
-    assert!(rt; reply_alike(&rt, alloc, Team::locking(64), FOUR_TENANTS) == Some(true));
+    assert!(rt; reply_alike(&rt, alloc, 1, FOUR_TENANTS) == Some(true));
+    assert!(rt; reply_alike(&rt, alloc, 4, FOUR_TENANTS) == Some(true));
+    assert!(rt; reply_alike(&rt, alloc, 64, FOUR_TENANTS) == Some(true));
 }
 
 /// Three revisions of a job of one tenant, beside jobs of two others.
@@ -177,15 +104,28 @@ const THREE: Answered = Answered {
 };
 
 #[test]
-fn any_number_of_workers_of_a_service_replies_alike(rt: HostRuntime) {
+fn any_number_of_workers_replies_alike_to_revisions(rt: HostRuntime) {
     let alloc = rt.alloc();
-    assert!(rt; reply_alone(&rt, alloc, THREE) == Some(true));
-    assert!(rt; reply_alike(&rt, alloc, Team::serving(2), THREE) == Some(true));
-    assert!(rt; reply_alike(&rt, alloc, Team::serving(4), THREE) == Some(true));
-    assert!(rt; reply_alike(&rt, alloc, Team::serving(64), THREE) == Some(true));
+    assert!(rt; reply_alike(&rt, alloc, 1, THREE) == Some(true));
+    assert!(rt; reply_alike(&rt, alloc, 2, THREE) == Some(true));
+    assert!(rt; reply_alike(&rt, alloc, 4, THREE) == Some(true));
+    assert!(rt; reply_alike(&rt, alloc, 64, THREE) == Some(true));
 }
 
-/// Runs a script over a hall under a lock that has its first job already, and so refuses it.
+/// Opens a job at a service.
+fn opened<S: Size, R: Wait>(rt: &R, service: &Service<S>, pass: Pass<S>, job: &ScriptJob) -> Pass<S>
+    requires { IsOf service.now.turn pass }
+    ensures { IsOf service.now.turn result }
+{
+    let post = Post::Open {
+        tenant: job.tenant(),
+        job: job.name(),
+        ask: job.ask(),
+    };
+    service.post(rt, pass, post).0
+}
+
+/// Runs a script over a service that has its first job already, and so refuses it.
 fn run_refused<S: Size + Send + Sync, R: Threads + Wait + Sync>(
     rt: &R,
     alloc: Global,
@@ -197,27 +137,13 @@ fn run_refused<S: Size + Send + Sync, R: Threads + Wait + Sync>(
     requires size { workers ≡ S.workers }
     ensures { IfOk result (λ h. HasRun workers script.now h) }
 {
-    let mut kept: HallBox<S> = HallBox::new(Hall::new(alloc, workers)?);
-    match script.jobs().first() {
-        Some(job) => {
-            let _ = kept.post(Post::Open {
-                tenant: job.tenant(),
-                job: job.name(),
-                ask: job.ask(),
-            });
-        }
-        None => {}
-    }
-    let board = Shared::new(kept);
-    run_with(
-        rt,
-        alloc,
-        board,
-        OwnCalls::new(),
-        script,
-        workers,
-        &PlainGate,
-    )
+    let (service, pass) = Service::<S>::new(alloc, workers)?;
+    let pass = match script.jobs().first() {
+        Some(job) => opened(rt, &service, pass, job),
+        None => pass,
+    };
+    let board = Served::new(service);
+    run_with(rt, alloc, board, pass, script, workers, &PlainGate)
 }
 
 /// Whether a hall that refuses a job is given up, and a new one replies to the script of the four tenants.

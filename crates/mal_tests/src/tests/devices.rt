@@ -103,7 +103,7 @@ const LOG: &[u8] = b"h mal 1 1\no a p 1 1 4\nr a p 1\nc a p\nb a p 1\ns a p 0 1\
 
 const REPLY: &[u8] = b"r a p 1\ns SATISFIABLE\nv 0\n";
 
-/// Whether the program comes to this end, by words and a source. None where memory is wanting for the devices.
+/// Whether the program comes to this end, by words and a source. None where memory runs out for the devices.
 fn comes_to<R: Threads + Wait + Sync>(
     rt: &R,
     alloc: Global,
@@ -292,7 +292,7 @@ fn sinks_of(device: Device, sinking: Sinking) -> Sinks {
 }
 
 /// What a command comes to whose output, or else whose log, takes that front of its text alone. The output is written
-/// behind the whole log, and where the log fails it gets nothing.
+/// after the whole log, and where the log fails it gets nothing.
 fn end_at<'a>(command: &Command<'a>, device: Device, front: usize) -> Option<End<'a>> {
     Some(match device {
         Device::Out => End::with(5, command.out.get(..front)?, command.log),
@@ -300,7 +300,7 @@ fn end_at<'a>(command: &Command<'a>, device: Device, front: usize) -> Option<End
     })
 }
 
-/// Whether an output or a log that fails at its byte behind so many, and one that is full there, keep that front of
+/// Whether an output or a log that fails at its byte after so many, and one that is full there, keep that front of
 /// their text.
 fn keeps_front<R: Threads + Wait + Sync>(
     rt: &R,

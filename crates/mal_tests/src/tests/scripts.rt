@@ -79,7 +79,7 @@ const HEADS: &[Heads] = &[
 const PIGEONS: &[u8] =
     b"p cnf 12 22\n1 2 3 0\n4 5 6 0\n7 8 9 0\n10 11 12 0\n-4 -1 0\n-7 -1 0\n-7 -4 0\n-10 -1 0\n-10 -4 0\n-10 -7 0\n-5 -2 0\n-8 -2 0\n-8 -5 0\n-11 -2 0\n-11 -5 0\n-11 -8 0\n-6 -3 0\n-9 -3 0\n-9 -6 0\n-12 -3 0\n-12 -6 0\n-12 -9 0\na 0\ne\n";
 
-/// Puts the jobs of one tenant behind a text. False where memory is wanting.
+/// Puts the jobs of one tenant after a text. False where memory runs out.
 fn put_tenant(text: &mut Vec<u8>, heads: &Heads) -> bool {
     if text.extend_from_slice(heads.tenant).is_err() {
         return false;
@@ -92,7 +92,7 @@ fn put_tenant(text: &mut Vec<u8>, heads: &Heads) -> bool {
     true
 }
 
-/// Puts the jobs of these tenants behind a text. False where memory is wanting.
+/// Puts the jobs of these tenants after a text. False where memory runs out.
 fn put_tenants(text: &mut Vec<u8>, tenants: &[Heads]) -> bool {
     for heads in tenants {
         if !put_tenant(text, heads) {

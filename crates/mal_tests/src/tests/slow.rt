@@ -5,9 +5,10 @@ ghost use Rattle.mal_pool.specs.Posts.{HasRun};
 
 use super::gates::has_replied;
 use super::scripts::FOUR_TENANTS;
-use mal_hall::{Desk, FinishAnswer, Hall, PickAnswer, Post, PostFault};
-use mal_pool::{Board, HallBox, InUse, OwnCalls, PlainGate, Shared, Size, run_alone, run_with};
+use mal_hall::{Desk, FinishAnswer, Hall, PickAnswer, Post, PostFault, Size};
+use mal_pool::{Board, InUse, PlainGate, Served, run_alone, run_with};
 use mal_script::Script;
+use mal_service::Service;
 use mal_suspend::Done;
 use std::alloc::{AllocError, Global};
 use std::marker::Brand;
@@ -65,7 +66,7 @@ impl<B: Board> Board for Slow<B> {
     }
 }
 
-/// Runs a script over a hall under a lock, whose posts are slow.
+/// Runs a script over a service, whose posts are slow.
 fn run_slowly<S: Size + Send + Sync, R: Threads + Wait + Sync>(
     rt: &R,
     alloc: Global,
@@ -78,17 +79,10 @@ fn run_slowly<S: Size + Send + Sync, R: Threads + Wait + Sync>(
     requires size { workers ≡ S.workers }
     ensures { IfOk result (λ h. HasRun workers script.now h) }
 {
-    let board: Shared<S> = Shared::new(HallBox::new(Hall::new(alloc, workers)?));
+    let (service, pass) = Service::<S>::new(alloc, workers)?;
+    let board = Served::new(service);
     let slow = Slow { board, turns };
-    run_with(
-        rt,
-        alloc,
-        slow,
-        OwnCalls::new(),
-        script,
-        workers,
-        &PlainGate,
-    )
+    run_with(rt, alloc, slow, pass, script, workers, &PlainGate)
 }
 
 /// Whether those who post a script slowly are replied to as if they were quick.

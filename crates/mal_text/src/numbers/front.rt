@@ -4,10 +4,10 @@ ghost use Rattle.std.specs.Prelude.{◌≡◌, ◌<◌, ◌≤◌, ◌^◌, ◌�
 ghost use Rattle.spec_text.specs.{Inputs.{words_of, is_blank}, Numbers.{is_digit}};
 ghost use Rattle.mal_text.specs.Numbers.{BeginsWith, BeginsWithDigits, begins_number};
 
-/// With a digit behind it, a number up to this one is below 2^62.
+/// With a digit after it, a number up to this one is below 2^62.
 const MOST: u64 = 400_000_000_000_000_000;
 
-/// The number that a line begins with, where no blank stands before it and it is not too large, and the line behind its
+/// The number that a line begins with, where no blank stands before it and it is not too large, and the line after its
 /// word. None says nothing of the line.
 pub fn number_in_front(line: &[u8]) -> Option<(i64, &[u8])>
     ensures number { IfSome result (λ cut. BeginsWith line.now cut.0 (words_of cut.1.now)) }
@@ -26,7 +26,7 @@ pub fn number_in_front(line: &[u8]) -> Option<(i64, &[u8])>
     }
 }
 
-/// The same of a line behind a minus sign.
+/// The same of a line after a minus sign.
 fn negative_in_front(line: &[u8]) -> Option<(i64, &[u8])>
     ensures number { IfSome result (λ cut. BeginsWith (45 ∷ line.now) cut.0 (words_of cut.1.now)) }
     ensures bound { IfSome result (λ cut. nat_abs cut.0 ≤ 2 ^ 62) }
@@ -48,8 +48,8 @@ pub fn begins_number(line: &[u8]) -> bool
     }
 }
 
-/// The number of the digits that a line begins with, where a blank or nothing is behind them and it is not too large,
-/// and the line behind the blank. None says nothing of the line.
+/// The number of the digits that a line begins with, where a blank or nothing is after them and it is not too large,
+/// and the line after the blank. None says nothing of the line.
 fn digits_in_front(line: &[u8]) -> Option<(u64, &[u8])>
     ensures number { IfSome result (λ cut. BeginsWithDigits line.now cut.0 cut.1.now) }
     ensures bound { IfSome result (λ cut. cut.0 ≤ 2 ^ 62) }

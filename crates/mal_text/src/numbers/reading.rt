@@ -7,7 +7,7 @@ ghost use Rattle.mal_text.specs.Numbers.{word_of, magnitude_word_of};
 use super::NumberFault;
 
 /// Reads a number with a magnitude of at most `max`: an optional minus sign and one digit or more. Leading zeros are
-/// allowed; a plus sign and a zero behind a minus sign are not.
+/// allowed; a plus sign and a zero after a minus sign are not.
 pub fn number(word: &[u8], max: u64) -> Result<i64, NumberFault>
     requires { max < 2 ^ 63 }
     ensures { word_of result ≡ number_in word.now max }
@@ -59,7 +59,7 @@ fn value_at_most(digits: &[u8], max: u64) -> Option<u64>
     if value <= max { Some(value) } else { None }
 }
 
-/// A number with one more digit behind it, where it fits.
+/// A number with one more digit after it, where it fits.
 fn with_digit(value: u64, digit: u8) -> Option<u64>
     ensures { SomeIff result (with_digit value digit < 2 ^ 64) (with_digit value digit) }
 {

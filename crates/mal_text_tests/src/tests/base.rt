@@ -73,8 +73,9 @@ fn parts_of(number: i32) -> Option<(u32, u32, [i32; 2])> {
 
 #[test]
 fn literals_are_those_of_dimacs(rt: HostRuntime) {
-    assert!(rt; parts_of(0).is_none() && parts_of(65_537).is_none());
-    assert!(rt; parts_of(65_536) == Some((65_536, 131_072, [65_536, -65_536])));
+    assert!(rt; parts_of(0).is_none() && parts_of(1_073_741_825).is_none());
+    let last = [1_073_741_824, -1_073_741_824];
+    assert!(rt; parts_of(last[0]) == Some((1_073_741_824, 2_147_483_648, last)));
     assert!(rt; parts_of(-1) == Some((1, 3, [-1, 1])));
 }
 
@@ -96,7 +97,7 @@ fn counts_of(variables: u32, clauses: ClauseList) -> Option<[usize; 3]> {
     ])
 }
 
-/// What the formula of these counts, if there is one. None where memory is wanting.
+/// What the formula of these counts, if there is one. None where memory runs out.
 fn counted(alloc: Global, variables: u32, rows: &[&[i32]]) -> Option<Option<[usize; 3]>> {
     Some(counts_of(variables, clauses(alloc, rows)?))
 }
@@ -153,7 +154,7 @@ const ASKS: [([i64; 4], bool); 7] = [
 /// The ask of a priority, a demand and slices for solvers of a profile.
 fn ask_of(terms: [i64; 4]) -> Option<Ask> {
     let [priority, demand, slices, profile] = terms;
-    Ask::of(priority, demand, slices)?.with_profile(profile)
+    Ask::of_numbers(priority, demand, slices, profile)
 }
 
 /// The priority, the demand, the slices and the profile of the ask of these, if there is one.
@@ -163,7 +164,7 @@ fn terms_of(terms: [i64; 4]) -> Option<[i64; 4]> {
         i64::from(ask.priority()),
         i64::from(ask.demand()),
         i64::from(ask.slices()),
-        i64::from(ask.profile()),
+        i64::from(ask.profile().number()),
     ])
 }
 

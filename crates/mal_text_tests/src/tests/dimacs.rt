@@ -5,7 +5,7 @@ use mal_base::{BlockFault, Formula};
 use mal_dimacs::{BlockReader, DimacsError, put_block, put_closed, read, write};
 use std::alloc::Global;
 
-/// A block of two variables and one clause behind its header.
+/// A block of two variables and one clause after its header.
 fn begun(alloc: Global) -> Option<BlockReader> {
     BlockReader::of_header(alloc, b"p cnf 2 1").ok()
 }
@@ -43,7 +43,7 @@ fn a_block_is_read_line_by_line(rt: HostRuntime) {
     assert!(rt; fault == Some(DimacsError::Fault(BlockFault::BadNumber)));
 }
 
-/// Writes a formula, and two lines behind it.
+/// Writes a formula, and two lines after it.
 fn put_all(text: &mut Vec<u8>, alloc: Global, formula: &Formula) -> Option<()> {
     put_block(text, formula.variables(), formula.clauses()).ok()?;
     let lits = lits(alloc, &[-2])?;
@@ -51,13 +51,13 @@ fn put_all(text: &mut Vec<u8>, alloc: Global, formula: &Formula) -> Option<()> {
     put_closed(text, &[]).ok()
 }
 
-/// Whether a formula and two lines behind it are written so.
+/// Whether a formula and two lines after it are written so.
 fn are_put(alloc: Global, formula: &Formula, known: &[u8]) -> bool {
     let mut text = Vec::new(alloc);
     put_all(&mut text, alloc, formula).is_some() && text.as_slice() == known
 }
 
-/// Whether the formula of a text and two lines behind it are written so.
+/// Whether the formula of a text and two lines after it are written so.
 fn are_written(alloc: Global, text: &[u8], known: &[u8]) -> bool {
     match read(alloc, text) {
         Err(_) => false,

@@ -97,7 +97,7 @@ fn enter_moves(history: &mut History, alloc: Global, is_back: bool) -> Option<()
     Some(())
 }
 
-/// Whether the events of the job in the history of a text, behind which it moves so, are written so.
+/// Whether the events of the job in the history of a text, after which it moves so, are written so.
 fn is_moved(alloc: Global, text: &[u8], is_back: bool, known: &[u8]) -> Option<bool> {
     let mut history = read(alloc, text).ok()?;
     enter_moves(&mut history, alloc, is_back)?;

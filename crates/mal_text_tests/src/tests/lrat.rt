@@ -23,7 +23,7 @@ fn shown(line: &Line, numbers: &[i32], known: &[u64]) -> Option<(u64, [bool; 2])
     }
 }
 
-/// The same of the line of a text behind the number 4.
+/// The same of the line of a text after the number 4.
 fn read_so(alloc: Global, text: &[u8], numbers: &[i32], known: &[u64]) -> Option<(u64, [bool; 2])> {
     let line = read_line(alloc, text, 4).ok()?;
     shown(&line, numbers, known)
@@ -35,7 +35,7 @@ fn a_line_has_an_id_literals_and_hints(rt: HostRuntime) {
     assert!(rt; found == Some((5, [true; 2])));
 }
 
-/// Lines behind one of the number 4, with their first faults.
+/// Lines after one of the number 4, with their first faults.
 const FAULTS: [(&[u8], LineFault); 2] = [
     (b"1 d -3", LineFault::BadNumber),
     (b"4 1 0 -1 2 0", LineFault::IdNotRising { last: 4, id: 4 }),
@@ -100,7 +100,7 @@ fn put_line(
     put_added(out, id, lits.as_slice(), hints.as_slice()).ok()
 }
 
-/// Writes literals behind a text, and an addition behind them.
+/// Writes literals after a text, and an addition after them.
 fn put_behind(out: &mut Vec<u8>, alloc: Global) -> Option<()> {
     put_some(out, alloc, &[2, -1])?;
     out.extend_from_slice(b"\nl ").ok()?;

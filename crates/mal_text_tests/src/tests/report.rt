@@ -1,15 +1,12 @@
 //! Replies whose text is known, to the job p of the tenant a.
 
 use super::values::{LineRow, lines, lits, name};
-use mal_base::Values;
+use mal_base::{Profile, Values};
 use mal_report::{Told, reply};
 use std::alloc::Global;
 
 /// The reply to a revision of the job under a profile, which tells this.
-fn text(alloc: Global, revision: u32, profile: u32, told: &Told) -> Option<Vec<u8>> {
-    if profile < 1 || profile > 2 {
-        return None;
-    }
+fn text(alloc: Global, revision: u32, profile: Profile, told: &Told) -> Option<Vec<u8>> {
     let tenant = name(b"a")?;
     let job = name(b"p")?;
     reply(alloc, &tenant, &job, revision, profile, told).ok()
@@ -19,7 +16,7 @@ fn text(alloc: Global, revision: u32, profile: u32, told: &Told) -> Option<Vec<u
 fn is_reply(
     alloc: Global,
     revision: u32,
-    profile: u32,
+    profile: Profile,
     told: Option<Told>,
     known: &[u8],
 ) -> Option<bool> {
@@ -42,19 +39,19 @@ fn model(alloc: Global, values: &[bool]) -> Option<Told> {
 fn a_model_is_written_by_variable(rt: HostRuntime) {
     let told = model(rt.alloc(), &[false, true, true]);
     let known = b"r a p 2\ns SATISFIABLE\nv -1 2 3 0\n";
-    assert!(rt; is_reply(rt.alloc(), 2, 1, told, known) == Some(true));
+    assert!(rt; is_reply(rt.alloc(), 2, Profile::Plain, told, known) == Some(true));
 }
 
 #[test]
 fn a_cause_is_told(rt: HostRuntime) {
     let known = b"r a p 1 2\ns UNKNOWN\nu starved 3\n";
-    assert!(rt; is_reply(rt.alloc(), 1, 2, Some(Told::Starved), known) == Some(true));
+    assert!(rt; is_reply(rt.alloc(), 1, Profile::Lean, Some(Told::Starved), known) == Some(true));
 }
 
 #[test]
 fn a_spent_budget_is_told(rt: HostRuntime) {
     let known = b"r a p 1\ns UNKNOWN\nu spent 4\n";
-    assert!(rt; is_reply(rt.alloc(), 1, 1, Some(Told::Spent(4)), known) == Some(true));
+    assert!(rt; is_reply(rt.alloc(), 1, Profile::Plain, Some(Told::Spent(4)), known) == Some(true));
 }
 
 /// That a reply carries a proof of one line, for two failed assumptions.
@@ -68,5 +65,7 @@ fn refutation(alloc: Global) -> Option<Told> {
 #[test]
 fn a_refutation_has_its_failed_assumptions_and_its_lines(rt: HostRuntime) {
     let known = b"r a p 2\ns UNSATISFIABLE\nk 1 2 0\nl 2 -1 -2 0 1 0\n";
-    assert!(rt; is_reply(rt.alloc(), 2, 1, refutation(rt.alloc()), known) == Some(true));
+    assert!(rt;
+        is_reply(rt.alloc(), 2, Profile::Plain, refutation(rt.alloc()), known) == Some(true)
+    );
 }

@@ -5,7 +5,7 @@ use mal_base::{LimitKind, Var};
 use mal_revision::{Revision, RevisionFault};
 use std::alloc::Global;
 
-/// The revision of these clauses over so many variables, under these assumptions. None where memory is wanting.
+/// The revision of these clauses over so many variables, under these assumptions. None where memory runs out.
 fn made(
     alloc: Global,
     variables: u32,

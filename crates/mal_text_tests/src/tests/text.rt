@@ -51,7 +51,7 @@ fn a_line_with_tabs_is_cut_into_words(rt: HostRuntime) {
     assert!(rt; has_words(rt.alloc(), b" 1\t-2  0\r", &[b"1", b"-2", b"0"]));
 }
 
-/// The first line of a text and what is behind it, or its first word.
+/// The first line of a text and what is after it, or its first word.
 fn first(is_line: bool, text: &[u8]) -> Option<(&[u8], &[u8])> {
     if is_line {
         first_line(text)

@@ -18,7 +18,7 @@ pub enum Grammar {
 }
 
 /// What is told of a text: what was read, written again, or the line that tells its first fault. Of a claim it is the
-/// line that tells the verdict on its proof, empty where it is verified. None where memory is wanting.
+/// line that tells the verdict on its proof, empty where it is verified. None where memory runs out.
 fn told(alloc: Global, grammar: Grammar, text: &[u8]) -> Option<Vec<u8>> {
     match grammar {
         Grammar::Formula => formula(alloc, text),
@@ -53,7 +53,7 @@ fn history(alloc: Global, text: &[u8]) -> Option<Vec<u8>> {
     }
 }
 
-/// The script and the history of an account are written one behind another.
+/// The script and the history of an account are written one after another.
 fn account(alloc: Global, text: &[u8]) -> Option<Vec<u8>> {
     match mal_account::read(alloc, text) {
         Ok(account) => both(alloc, &account),
@@ -184,7 +184,7 @@ const TOLD: [(Grammar, &[u8], &[u8]); 37] = [
         b"h mal 1 2\nb a p 1 a q 1 b p 0 b q 0\nb a q 1 b p 1 b q 0\nc a p\nb b p 1 c p 1 b q 0\nb\nb b p 1\n",
         b"h mal 1 2\nb a p 1 a q 1 b p 0 b q 0\nb a q 1 b p 1 b q 0\nc a p\nb b p 1 c p 1 b q 0\nb\nb b p 1\n",
     ),
-    // A script and a history behind it, and what is wrong with one of them.
+    // A script and a history after it, and what is wrong with one of them.
     (
         Grammar::Account,
         b"c\nt a\nj p 1 1 4\ne\n history\t\r\nh mal 1 2\n\nc a p",
@@ -237,8 +237,8 @@ const TOLD: [(Grammar, &[u8], &[u8]); 37] = [
         b"p cnf 0 1\n0\nproof\n",
         b"fault: proof goal\n",
     ),
-    // A claim with every part, the lines of a reply, a clause that is held no more, an id that stands twice, and a line that
-    // is faulty behind one that is refused.
+    // A claim with every part, the lines of a reply, a clause that is held no more, an id that stands twice, and a line
+    // that is faulty after one that is refused.
     (
         Grammar::Claim,
         b"c\np cnf 3 2\n1 -2\n0 3 -3 0\n\na 2 -1 2 0\nc\n proof\t\nl 4 -2 1 0 1 0\n\n4 d 1 0",

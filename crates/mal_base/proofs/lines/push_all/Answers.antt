@@ -2,7 +2,7 @@ use Rattle.std.proofs.Common.{◌≡◌, ◌∙◌, ℕ, ◌+◌, ◌<◌, List,
 use Rattle.std.proofs.lemmas.List.{take_more}
 use Rattle.mal_base.proofs.lines.push_all.Goals as goal
 
--- one item more of those that are put behind the others
+-- one item more of those that are put after the others
 one-more : {X : Type 0} (before all now more : List X) (x : X) (i : ℕ) → i < length more → x ≡ get_or more i x → all ≡ before ++ take i more → now ≡ all ++ x ∷ [] → now ≡ before ++ take (i + 1) more
 one-more before all now more x i less is e f =
     let step : take (i + 1) more ≡ take i more ++ get_or more i x ∷ [] = take_more more i x less in

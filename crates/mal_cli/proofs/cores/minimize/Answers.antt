@@ -1,5 +1,5 @@
-use Rattle.mal_cli.proofs.CoreLemmas.{core-refused}
+use Rattle.mal_answer.proofs.Lawful.{core_inputs-read}
 use Rattle.mal_cli.proofs.cores.minimize.Goals as goal
 
-pub returns : goal.returns
-returns c = core-refused c.args.slices c.args.text.items c.in-Err.fault c.no_input.result (rw c.as_slice.ensures.value at c.in-Err.ensures.exact) c.no_input.ensures
+pub search_text-requires-clause-lawful : goal.search_text-requires-clause-lawful
+search_text-requires-clause-lawful c = core_inputs-read

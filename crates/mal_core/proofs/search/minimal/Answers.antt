@@ -1,4 +1,12 @@
+use Rattle.std.proofs.Common.{List, ℕ, ap}
+use Rattle.std.proofs.lemmas.Result.{IfOk-weaker}
+use Rattle.spec_hall.specs.Dressed.{keyed}
+use Rattle.mal_core.specs.Seen.{instance, seen}
+use Rattle.mal_core.proofs.SearchLemmas.{named-found, search-room}
 use Rattle.mal_core.proofs.search.minimal.Goals as goal
 
+pub run-requires-clause-room : goal.run-requires-clause-room
+run-requires-clause-room c = search-room (instance c.args.formula.now c.args.assumptions.now) c.requires.served
+
 pub returns : goal.returns
-returns c = c.search.ensures c.args.slices c.in_ok-inquiry.ensures.inquiry
+returns c = IfOk-weaker c.run.result _ _ (λ outcome searched. named-found c.args.slices (instance c.args.formula.now c.args.assumptions.now) (seen outcome) (keyed c.own_name.result c.own_name.result) (ap (λ (n : List ℕ). keyed n n) c.own_name.ensures) c.requires.served searched) c.run.ensures

@@ -1,6 +1,6 @@
 use Rattle.std.proofs.Common.{rules, ◌≡◌, ◌+◌, ◌-◌, ◌<◌, ◌++◌, length, take, get_or, arith}
 use Rattle.spec_exchange.specs.Exchange.{union, prefix, most_literals}
-use Rattle.mal_exchange.proofs.LastLemmas.{climb-last}
+use Rattle.spec_exchange.proofs.ClimbLemmas.{climb-last}
 use Rattle.mal_exchange.proofs.climbing.climb.Goals as goal
 
 pub returns-clause-same : goal.returns-clause-same

@@ -1,10 +1,10 @@
-//! Plays: calls of a hall, one behind another, with their answers.
+//! Plays: calls of a hall, one after another, with their answers.
 
 use crate::tests::calling::{
     Key, P, Told, drive, given, hear, open, pick, revise, unrun, worked_off, write,
 };
 use crate::tests::making::{Posted, ask, name, numbered};
-use mal_base::{Ask, Weight};
+use mal_base::{Ask, Profile, Weight};
 use mal_hall::Hall;
 use mal_learn::Scratch;
 use mal_suspend::Done;
@@ -17,9 +17,9 @@ pub(crate) enum Call<'a> {
     Open(Key<'a>),
     /// Opens the job p of tenant a with this demand, so many slices and this profile, posts a revision of so many
     /// variables, and closes the job.
-    OneJob(i64, i64, i64, u32),
+    OneJob(i64, i64, Profile, u32),
     /// Opens the job p of tenant a with this demand, so many slices and this profile.
-    OpenFor(i64, i64, i64),
+    OpenFor(i64, i64, Profile),
     /// Opens a job with this priority and this demand, and 4 slices, and posts a revision without variables.
     OpenAt(Key<'a>, i64, i64),
     /// Opens so many jobs of tenant a.
@@ -34,9 +34,9 @@ pub(crate) enum Call<'a> {
     Close(Key<'a>),
     /// A worker picks.
     Pick(u32),
-    /// A worker picks and works its lease off. What came of it is kept, behind what was kept before.
+    /// A worker picks and works its lease off. What came of it is kept, after what was kept before.
     Work(u32),
-    /// A worker picks, and the start of its lease wants for memory. What came of it is kept too.
+    /// A worker picks, and the start of its lease runs out of memory. What came of it is kept too.
     Starve(u32),
     /// Worker 1 of another hall, which has `ONE_JOB` too, works its lease off. What came of it is kept too.
     WorkElsewhere,
@@ -54,7 +54,7 @@ pub(crate) enum Call<'a> {
 /// Opens jobs of tenant a. What the first that is refused is told, if one is.
 fn open_jobs(alloc: Global, hall: &mut Hall, jobs: u8) -> Told {
     for n in 0..jobs {
-        let told = open(alloc, hall, (b"a", &numbered(n)), ask(1, 4, 1));
+        let told = open(alloc, hall, (b"a", &numbered(n)), ask(1, 4, Profile::Plain));
         if told != Told::Done {
             return told;
         }
@@ -65,7 +65,7 @@ fn open_jobs(alloc: Global, hall: &mut Hall, jobs: u8) -> Told {
 /// Opens a job of each of so many tenants. What the first that is refused is told, if one is.
 fn open_tenants(alloc: Global, hall: &mut Hall, tenants: u8) -> Told {
     for n in 0..tenants {
-        let told = open(alloc, hall, (&numbered(n), b"p"), ask(1, 4, 1));
+        let told = open(alloc, hall, (&numbered(n), b"p"), ask(1, 4, Profile::Plain));
         if told != Told::Done {
             return told;
         }
@@ -180,7 +180,7 @@ fn work_elsewhere(alloc: Global, kept: &mut Vec<Done>) -> Told {
 
 /// Has worker 1 of a hall work that has no job yet.
 fn work_in(alloc: Global, hall: &mut Hall, kept: &mut Vec<Done>) -> Told {
-    match one_job(alloc, hall, ask(1, 4, 1), 0) {
+    match one_job(alloc, hall, ask(1, 4, Profile::Plain), 0) {
         Told::Done => work(alloc, hall, 1, kept),
         told => told,
     }
@@ -209,7 +209,7 @@ fn drive_to(alloc: Global, hall: &mut Hall, known: &[u8]) -> Told {
 /// What a hall answers to a call.
 fn answer(alloc: Global, hall: &mut Hall, kept: &mut Vec<Done>, call: Call) -> Told {
     match call {
-        Call::Open(key) => open(alloc, hall, key, ask(1, 4, 1)),
+        Call::Open(key) => open(alloc, hall, key, ask(1, 4, Profile::Plain)),
         Call::OneJob(demand, slices, profile, variables) => {
             one_job(alloc, hall, ask(demand, slices, profile), variables)
         }

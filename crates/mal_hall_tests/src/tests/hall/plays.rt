@@ -3,7 +3,7 @@
 use super::playing::{Call, Play};
 use crate::tests::calling::{FREE_REPLY, P, Told};
 use crate::tests::making::Posted;
-use mal_base::LimitKind;
+use mal_base::{LimitKind, Profile};
 use mal_hall::{CloseFault, OpenFault, PickFault, ReaskFault, ReplyFault, ReviseFault};
 
 /// A job that is open is not opened again.
@@ -84,7 +84,7 @@ const SHARES_FOLLOW: Play = &[
 
 /// A job that wants one worker in place of two has both nodes out: they come home, and only the first starts again.
 const FEWER_WANTED: Play = &[
-    (Call::OpenFor(2, 8, 2), Told::Done),
+    (Call::OpenFor(2, 8, Profile::Lean), Told::Done),
     (Call::Revise(P, Posted::Free(1000)), Told::Done),
     (Call::Work(1), Told::Done),
     (Call::Work(2), Told::Done),
@@ -169,7 +169,7 @@ const THREE_REVISIONS: Play = &[
 ];
 
 /// One job with a revision without variables.
-const ONE_JOB: Call = Call::OneJob(1, 4, 1, 0);
+const ONE_JOB: Call = Call::OneJob(1, 4, Profile::Plain, 0);
 
 /// A worker with a lease is busy.
 const BUSY: Play = &[
@@ -238,7 +238,7 @@ const UNCLOSED: Play = &[
     (Call::Pick(1), Told::Idle),
 ];
 
-/// All plays by their names, each behind the number of workers that its hall has.
+/// All plays by their names, each after the number of workers that its hall has.
 pub(crate) const PLAYS: [(&str, u32, Play); 16] = [
     ("OPENINGS", 1, OPENINGS),
     ("JOBS_OF_A_TENANT", 1, JOBS_OF_A_TENANT),

@@ -103,7 +103,7 @@ impl Tenant {
     }
 }
 
-/// Puts sixteen tenants into a list. False where memory is wanting.
+/// Puts sixteen tenants into a list. False where memory runs out.
 fn put_tenants(alloc: Global, tenants: &mut Vec<Tenant>) -> bool {
     for number in 0..16 {
         match tenants.push(Tenant::new(alloc, number)) {
@@ -417,8 +417,8 @@ fn count_alike(alloc: Global, tenants: &[Tenant]) -> usize {
         .count()
 }
 
-/// How many of sixteen tenants hear what a hall of their own replies. None where the service is still in use at the end,
-/// or memory is wanting.
+/// How many of sixteen tenants hear what a hall of their own replies. None where the service is still in use at the
+/// end, or memory runs out.
 fn heard_alike<R: Wait>(rt: &R, alloc: Global) -> Option<usize> {
     let mut tenants = Vec::new(alloc);
     let is_made = put_tenants(alloc, &mut tenants);

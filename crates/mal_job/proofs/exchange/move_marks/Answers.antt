@@ -1,5 +1,5 @@
 use Rattle.std.proofs.Common.{arith}
-use Rattle.mal_job.proofs.ExportedLemmas.{marked-step}
+use Rattle.mal_job.proofs.TakenLemmas.{marked-step}
 use Rattle.mal_job.proofs.exchange.move_marks.Goals as goal
 
 pub loop-index-preserved : goal.loop-index-preserved

@@ -1,4 +1,5 @@
-use Rattle.std.proofs.Common.{◌≡◌, ◌+◌, ◌-◌, ◌≤◌, ◌^◌, ℕ, List, length, take, drop, IfOk, ◌∙◌, ap, subst, arith}
+use Rattle.std.proofs.Common.{◌≡◌, ◌+◌, ◌-◌, ◌≤◌, ℕ, List, length, take, drop, IfOk, ◌∙◌, ap, subst, arith}
+use Rattle.mal_base.specs.Limits.{limits}
 use Rattle.mal_revision.specs.Posted.{Posted}
 use Rattle.spec_job.specs.SoloMachine.{clauses_in}
 use Rattle.mal_suspend.specs.Starting.{shared_loads}
@@ -17,7 +18,7 @@ loads_of-requires c =
     let one : c.count_clauses.result ≡ clauses_in (take c.args.loaded rs) = c.count_clauses.ensures ∙ ap clauses_in front in
     let two : clauses_in (shared (take m c.split_at.result.1.now)) ≡ clauses_in (take m (drop c.args.loaded rs)) = ap clauses_in back in
     let all : clauses_in (take c.args.loaded rs) + clauses_in (take m (drop c.args.loaded rs)) ≤ clauses_in rs = few-loads c.args.loaded m rs in
-    let most : clauses_in rs ≤ 2 ^ 20 = c.revisions.ensures.kept.clauses in
+    let most : clauses_in rs ≤ limits.clauses = c.revisions.ensures.kept.clauses in
     omega (arith, one, two, all, most)
 
 pub returns : goal.returns

@@ -1,5 +1,6 @@
 use Rattle.std.proofs.Common.{◌≡◌, ◌++◌, false, length, map}
 use Rattle.std.specs.List.{list_any}
+use Rattle.mal_base.specs.Limits.{greatest_variable}
 use Rattle.spec_dimacs.specs.Merged.{clause_of}
 use Rattle.spec_json.specs.Numbers.{is_above, is_none}
 use Rattle.spec_json.specs.Reading.{literals}
@@ -10,7 +11,7 @@ abbrev pub invariant-loop-list : goal.invariant-loop-list
 invariant-loop-list l = record {
   same : l.clauses ++ map (λ numbers. clause_of (literals numbers)) (lists_of l.rest) ≡ map (λ numbers. clause_of (literals numbers)) (lists_of l.lists);
   some : list_any (list_any is_none) (lists_of l.rest) ≡ false;
-  bound : list_any (list_any (is_above 65536)) (lists_of l.rest) ≡ false;
+  bound : list_any (list_any (is_above greatest_variable)) (lists_of l.rest) ≡ false;
 }
 
 abbrev pub decreases-loop-list : goal.decreases-loop-list

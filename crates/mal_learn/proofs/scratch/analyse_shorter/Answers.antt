@@ -1,4 +1,4 @@
-use Rattle.std.proofs.Common.{◌≡◌, refl, ℕ, List, ◌<◌, ◌≤◌, ◌∙◌, [], false, length, get_or, ◌-◌, ap, arith}
+use Rattle.std.proofs.Common.{◌≡◌, refl, ℕ, List, ◌<◌, ◌≤◌, ◌∙◌, [], false, length, ap, arith}
 use Rattle.std.proofs.lemmas.List.{length-replicate}
 use Rattle.std.proofs.lemmas.List.Elements.{All-weaker}
 use Rattle.mal_base.specs.Literals.{var_of}

@@ -2,7 +2,7 @@ use Rattle.std.proofs.Common.{List, [], ◌∷◌, ◌++◌, append_assoc, sym, 
 use Rattle.std.specs.List.{All}
 use Rattle.std.specs.Vec.Iter.{into_iter_items}
 use Rattle.std.proofs.lemmas.List.Elements.{All-nil, All-tail}
-use Rattle.mal_pool.specs.Traces.{IsWithin}
+use Rattle.mal_pool.specs.Within.{IsWithin}
 use Rattle.mal_pool.specs.declared.role.Played.{Played}
 use Rattle.mal_pool.proofs.Sharings.{joined-next, within-within}
 use Rattle.mal_pool.proofs.Withins.{within-same}

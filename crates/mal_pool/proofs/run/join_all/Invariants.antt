@@ -1,7 +1,7 @@
 use Rattle.std.proofs.Common.{◌≡◌, List, ◌++◌}
 use Rattle.std.specs.List.{All}
 use Rattle.std.specs.Vec.Iter.{into_iter_items}
-use Rattle.mal_pool.specs.Traces.{IsWithin}
+use Rattle.mal_pool.specs.Within.{IsWithin}
 use Rattle.mal_pool.specs.declared.role.Played.{Played}
 use Rattle.mal_pool.proofs.run.join_all.Given as goal
 

@@ -118,13 +118,13 @@ fn stir(both: &mut Both, alloc: Global, step: u32, draws: &mut Draws) -> Result<
     Ok(())
 }
 
-/// A step of a random run, with all batches behind it. Whether there was a conflict; no answer where the engines differ.
+/// A step of a random run, with all batches after it. Whether there was a conflict; no answer where the engines differ.
 fn step_on(both: &mut Both, alloc: Global, step: u32, draws: &mut Draws) -> Option<bool> {
     stir(both, alloc, step, draws).ok()?;
     settle(both, draws)
 }
 
-/// How many conflicts there are, and how many entries stand on the trail behind each step, in a random run of this seed.
+/// How many conflicts there are, and how many entries stand on the trail after each step, in a random run of this seed.
 pub fn walk(both: &mut Both, alloc: Global, seed: u16) -> Option<(usize, usize)> {
     let mut draws = Draws::new(u32::from(seed));
     let mut conflicts: usize = 0;

@@ -8,8 +8,8 @@ use mal_trail::{Engine, Trail};
 use std::alloc::{AllocError, Global};
 use std::marker::Model;
 
-/// An engine, and a trail that it has followed. The trail has room for 16 variables, and for those of all clauses. Who asks
-/// for what it has no room for is told want of memory too.
+/// An engine, and a trail that it has followed. The trail has room for 16 variables, and for those of all clauses. Who
+/// asks for what it has no room for is told out of memory too.
 #[derive(Drop)]
 pub struct Run<E: Engine> {
     engine: E,

@@ -6,7 +6,7 @@ use Rattle.mal_text.proofs.write.append_line.Goals as goal
 pub returns-clause-written : goal.returns-clause-written
 returns-clause-written c = written_line c.args.out.now.items c.args.first.now c.loop-word.out.items c.end_line.new.out.items c.args.others.now c.loop-word.word-index (omega arith) c.loop-word.invariant c.in_ok-end_line.ensures.written
 
--- what a text begins with stands in front of what is written behind it
+-- what a text begins with stands in front of what is written after it
 kept : (old more now : List ℕ) (n : ℕ) → n ≡ length old → now ≡ old ++ more → take n now ≡ old
 kept old more now n is e = rw (is, e) (take-append_seam old more)
 

@@ -78,7 +78,7 @@ returns-clause-state g c =
     let lits2 : c.clause-2.result.now ≡ a.lits = c.clause-2.ensures ∙ c.requires.shown.lits in
     let lits3 : c.clause-3.result.now ≡ a.lits = c.clause-3.ensures ∙ c.requires.shown.lits in
     let handled : v.trail.processed ≡ length v.trail.entries + 1 = ap (λ (m : Node). m.processed) same ∙ (processed-learned n c.args.id c.requires.sound c.requires.conflict c.requires.level ∙ sym (ap (λ (m : Node). length m.trail + 1) same)) in
-    rw (c.counted-count.ensures, c.bump_all.ensures.list, c.force.ensures.entries, c.force.ensures.processed, c.learn.ensures.clauses, handled, lits, lits2, lits3, c.requires.number)
+    rw (c.counted-count.ensures, c.policy-reduction.ensures, c.bump_all.ensures.list, c.force.ensures.entries, c.force.ensures.processed, c.learn.ensures.clauses, handled, lits, lits2, lits3, c.requires.number)
     (ap (λ (m : Node). record m {
       serial = m.serial + 1;
       conflicts_since_restart = m.conflicts_since_restart + 1;

@@ -5,6 +5,7 @@ use Rattle.spec_hall.specs.Calls.{Revises}
 use Rattle.spec_hall.specs.Dressed.{keyed}
 use Rattle.spec_hall.specs.Events.{Revise}
 use Rattle.spec_hall.specs.Seats.{Seat}
+use Rattle.mal_base.specs.Limits.{limits}
 use Rattle.mal_base.specs.declared.hall_fault.ReviseFault.TheVariants.{OutOfMemory}
 use Rattle.mal_hall.proofs.HallLemmas.{Grown, placed, placed-below, sits, hall-absent, hall-place, hall-found, hall-next, hall-revise, hall-waited, may-revise, called-none, called-one, of-seat}
 use Rattle.mal_hall.proofs.Parts.{parts}
@@ -38,13 +39,13 @@ pub enter_revise-requires-clause-few : goal.enter_revise-requires-clause-few
 enter_revise-requires-clause-few c =
     let here = sits c.self.inside.seats (keyed c.args.tenant.now c.args.job.now) _ _ _ (hall-place _ (keyed c.args.tenant.now c.args.job.now) _ c.self.invariant c.place_of.ensures) c.in-Some.is c.at.ensures in
     let e = rw c.job.ensures at c.in_ok-number.ensures in
-    of-seat (λ (s : Seat). length s.job.titled.state.revisions < 256) c.self.inside.seats c.in-Some.at c.at.result.now here.seat e.few
+    of-seat (λ (s : Seat). length s.job.titled.state.revisions < limits.revisions) c.self.inside.seats c.in-Some.at c.at.result.now here.seat e.few
 
 pub enter_revise-requires-clause-clauses : goal.enter_revise-requires-clause-clauses
 enter_revise-requires-clause-clauses c =
     let here = sits c.self.inside.seats (keyed c.args.tenant.now c.args.job.now) _ _ _ (hall-place _ (keyed c.args.tenant.now c.args.job.now) _ c.self.invariant c.place_of.ensures) c.in-Some.is c.at.ensures in
     let e = rw c.job.ensures at c.in_ok-number.ensures in
-    of-seat (λ (s : Seat). clauses_in s.job.titled.state.revisions + length c.args.revision.clauses ≤ 1048576) c.self.inside.seats c.in-Some.at c.at.result.now here.seat e.room.clauses
+    of-seat (λ (s : Seat). clauses_in s.job.titled.state.revisions + length c.args.revision.clauses ≤ limits.clauses) c.self.inside.seats c.in-Some.at c.at.result.now here.seat e.room.clauses
 
 pub invariant_of-self : goal.invariant_of-self
 invariant_of-self c = hall-waited (parts c.self.inside) c.enter_revise.new.entries c.enter_revise.new.seats c.self.invariant c.in-Err.ensures.err

@@ -1,13 +1,10 @@
-use Rattle.std.proofs.Common.{◌≡◌, List, take, [], ◌∷◌, ◌++◌, ◌∙◌, ap}
+use Rattle.std.proofs.Common.{◌≡◌, List, length, map, take, [], ◌∷◌, ◌++◌, ◌∙◌, ap}
 use Rattle.std.specs.Arc.{arc_value}
-use Rattle.mal_job.specs.Exports.{broadcasts_from}
-use Rattle.mal_job.specs.Viewed.{PlaceView, TreeView, shared}
-use Rattle.mal_job.proofs.ExchangeLemmas.{told-few}
+use Rattle.spec_exchange.specs.Exchange.{broadcast}
+use Rattle.spec_job.specs.SoloMachine.{exports_from}
+use Rattle.mal_job.specs.Viewed.{PlaceView, TreeView, shared, place_of}
 use Rattle.mal_job.proofs.TreeLemmas.{tree-exchanged, exchanged-is, shared-push}
 use Rattle.mal_job.proofs.tree.Tree.exchange.Goals as goal
-
-pub up-requires : goal.up-requires
-up-requires c = told-few c.args.log.now.lines c.self.inside.volume c.self.inside.places.items c.as_slice.result.now (c.as_slice.ensures.value ∙ (c.in_ok-exported.ensures ∙ ap (λ (ps : List PlaceView). broadcasts_from c.args.log.now.lines 0 (take c.self.inside.volume ps)) c.deref.ensures.value)) c.self.invariant.volume
 
 pub invariant_of-self-2 : goal.invariant_of-self-2
 invariant_of-self-2 c =
@@ -18,7 +15,8 @@ pub returns-clause-ok : goal.returns-clause-ok
 returns-clause-ok c =
     let t : TreeView = record { number = c.self.inside.number; profile = c.self.inside.profile; volume = c.self.inside.volume; places = c.self.inside.places.items; broadcasts = shared c.self.inside.broadcasts.items; ran = c.self.inside.ran } in
     let now : shared c.push.new.self.items ≡ shared c.self.inside.broadcasts.items ++ arc_value c.in_ok-broadcast.broadcast ∷ [] = ap shared c.in_ok-push.ensures.items ∙ shared-push c.self.inside.broadcasts.items c.in_ok-broadcast.broadcast in
-    rw (← c.self.view_is) (exchanged-is t c.args.log.now.lines c.move_marks.new.places.items (shared c.push.new.self.items) c.as_slice.result.now (arc_value c.in_ok-broadcast.broadcast) c.count.result c.move_marks.ensures c.count.ensures.value now (c.in_ok-broadcast.ensures.ok ∙ c.in_ok-up.ensures) (c.as_slice.ensures.value ∙ (c.in_ok-exported.ensures ∙ ap (λ (ps : List PlaceView). broadcasts_from c.args.log.now.lines 0 (take c.self.inside.volume ps)) c.deref.ensures.value)) (rw (← c.self.view_is) at c.requires.volume))
+    let all : c.in_ok-exported.exported ≡ broadcast (exports_from (length (take c.self.inside.volume c.self.inside.places.items)) c.args.log.now.lines 0 (map place_of (take c.self.inside.volume c.self.inside.places.items))) = c.in_ok-exported.ensures ∙ ap (λ (ps : List PlaceView). broadcast (exports_from (length (take c.self.inside.volume ps)) c.args.log.now.lines 0 (map place_of (take c.self.inside.volume ps)))) c.deref.ensures.value in
+    rw (← c.self.view_is) (exchanged-is t c.args.log.now.lines c.move_marks.new.places.items (shared c.push.new.self.items) (arc_value c.in_ok-broadcast.broadcast) c.count.result c.move_marks.ensures c.count.ensures.value now (c.in_ok-broadcast.ensures.ok ∙ all) (rw (← c.self.view_is) at c.requires.volume))
 
 pub returns-clause-kept : goal.returns-clause-kept
 returns-clause-kept c = invariant_of-self-2 c

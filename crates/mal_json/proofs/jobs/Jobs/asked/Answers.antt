@@ -1,17 +1,18 @@
-use Rattle.std.proofs.Common.{◌≡◌, ℕ, true, List, Result, sym, ap₂, ◌∙◌, subst}
+use Rattle.std.proofs.Common.{◌≡◌, ℕ, List, Option, Some, Result, sym, ap, ap₂, ◌∙◌, subst}
+use Rattle.mal_base.specs.Asks.{Terms}
+use Rattle.mal_base.specs.Limits.{limits}
 use Rattle.serde_json.specs.View.{view}
-use Rattle.spec_script.specs.Limits.{served}
 use Rattle.spec_script.specs.Script.{ScriptedJob}
-use Rattle.spec_json.specs.Numbers.{has_ask_range}
-use Rattle.spec_json.specs.Reading.{admitted}
+use Rattle.spec_json.specs.Numbers.{ask_in}
+use Rattle.spec_json.specs.Reading.{admitted, asked}
 use Rattle.spec_json.specs.declared.fault.JsonFault.{JsonFault}
-use Rattle.spec_json.proofs.StepsRead.{goes, holds}
 use Rattle.mal_json.specs.ReadResult.{Gives}
 use Rattle.mal_json.proofs.jobs.Jobs.asked.Goals as goal
 
-pub returns : goal.returns
-returns c =
-    let range : has_ask_range (view c.args.value.now) ≡ true = sym c.has_ask_range.ensures ∙ c.if-not-has_ask_range.false in
+pub returns-in-Some : goal.returns-in-Some
+returns-in-Some c =
+    let own : ask_in (view c.args.value.now) ≡ Some c.in-Some.ask = sym c.ask.ensures ∙ c.in-Some.is in
     subst (λ (read : Result (List ScriptedJob) JsonFault). Gives (λ j. j) c.admitted.result read)
-    (ap₂ (λ (t n : List ℕ). admitted served c.args.self t n (view c.args.value.now)) c.requires.tenant c.requires.name ∙ sym (goes _ _ _ (holds (has_ask_range (view c.args.value.now)) range)))
+    (ap₂ (λ (t n : List ℕ). admitted limits c.args.self t n (view c.args.value.now) c.in-Some.ask) c.requires.tenant c.requires.name
+    ∙ sym (ap (λ (o : Option Terms). asked limits c.args.self (view c.args.value.now) o) own))
     c.admitted.ensures

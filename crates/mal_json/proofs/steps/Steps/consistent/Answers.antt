@@ -1,5 +1,6 @@
 use Rattle.std.proofs.Common.{◌≡◌, ◌&&◌, ℕ, List, None, map, sym, ap, ◌∙◌}
 use Rattle.std.specs.List.{list_all, list_any}
+use Rattle.mal_base.specs.Limits.{greatest_variable}
 use Rattle.mal_base.specs.Clauses.{clash, rises}
 use Rattle.mal_base.specs.Formulas.{is_clause_of, is_within}
 use Rattle.serde_json.specs.Data.{Data}
@@ -14,12 +15,12 @@ use Rattle.mal_json.proofs.steps.Steps.consistent.Goals as goal
 
 pub sorted_literals-requires-clause-bound : goal.sorted_literals-requires-clause-bound
 sorted_literals-requires-clause-bound c =
-    ap (λ (ds : List Data). list_any (is_above 65536) (map whole_in ds)) c.items_at.ensures
+    ap (λ (ds : List Data). list_any (is_above greatest_variable) (map whole_in ds)) c.items_at.ensures
     ∙ low_one c.args.variables (assumptions_in (view c.args.value.now)) c.requires.few (or-none _ _ c.requires.low).1
 
 pub clause_list-requires-clause-bound : goal.clause_list-requires-clause-bound
 clause_list-requires-clause-bound c =
-    ap (λ (ds : List Data). list_any (list_any (is_above 65536)) (map numbers_in ds)) c.items_at-2.ensures
+    ap (λ (ds : List Data). list_any (list_any (is_above greatest_variable)) (map numbers_in ds)) c.items_at-2.ensures
     ∙ low_lists c.args.variables (clauses_in (view c.args.value.now)) c.requires.few (or-none _ _ c.requires.low).0
 
 pub with_revision-requires-clause-clauses : goal.with_revision-requires-clause-clauses

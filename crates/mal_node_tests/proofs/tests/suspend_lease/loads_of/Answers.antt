@@ -1,4 +1,5 @@
 use Rattle.std.proofs.Common.{ℕ, List, [], ◌∷◌, Option, length, ap, subst, arith}
+use Rattle.mal_base.specs.declared.profile.Profile.TheVariants.{Plain}
 use Rattle.mal_revision.specs.Posted.{Posted}
 use Rattle.spec_job.specs.Journal.{Load, Run, replay}
 use Rattle.mal_suspend.specs.Replaying.{MayAllReplay}
@@ -9,4 +10,4 @@ pub returns : goal.returns
 returns c =
     let same = ap (λ (xs : List (Option (List ℕ))). length xs) c.clauses.ensures.value in
     let may = first-may 0 c.deref.result.now (omega arith) c.clauses.ensures.form (omega (arith, same, c.len.ensures, c.if-len-gt1000.false)) in
-    rw c.in_ok-loads.ensures.items (subst (λ (r : Posted). MayAllReplay (replay 1 0 []) (Load r 1 ∷ Run ∷ [])) c.deref.ensures may)
+    rw c.in_ok-loads.ensures.items (subst (λ (r : Posted). MayAllReplay (replay Plain 0 []) (Load r 1 ∷ Run ∷ [])) c.deref.ensures may)

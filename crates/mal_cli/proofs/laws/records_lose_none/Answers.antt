@@ -1,5 +1,0 @@
-use Rattle.mal_cli.proofs.LossLemmas.{record-loses-none}
-use Rattle.mal_cli.proofs.laws.records_lose_none.Goals as goal
-
-pub returns : goal.returns
-returns c = record-loses-none

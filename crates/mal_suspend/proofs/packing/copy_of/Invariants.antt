@@ -1,5 +1,0 @@
-use Rattle.mal_suspend.proofs.PackLemmas.{IsCopying}
-use Rattle.mal_suspend.proofs.packing.copy_of.Given as goal
-
-abbrev pub invariant-loop-n : goal.invariant-loop-n
-invariant-loop-n l = IsCopying l.lines.lines l.n l.copy
