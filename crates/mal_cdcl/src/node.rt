@@ -7,7 +7,7 @@ ghost use Rattle.spec_node.specs.{State.{fresh, fresh_with}, Value.{next_assumpt
 ghost use Rattle.mal_cdcl.specs.{ImportSizes.{lits_in, import_clauses}, Importing.{AreNewTo, lent, MayImportAll, all_imported, with_pick}, Ready.{posted, readied, greatest, clauses_in, AreNew, HasRoomFor, IsSpared}, Sliced.{HasSliceRoom, HasStepRoom, HasIdRoom, HasLowCounts, MayCount, Keeps, IsShown, IsEnded, IsStepped, IsSearched, IsFailing, HasClauseRoom, HasLineRoom, IsLineLess}, Sourced.{IsSource, analysis_from, line_from}};
 ghost use Rattle.mal_trail.specs.Rooms.{HasRoom};
 ghost use Rattle.spec_learn.specs.{Learning.{analysis, derived_id, learned}, Refuting.{refuted}};
-ghost use Rattle.spec_search.specs.{Step.{step, restarting, branching, case_of, after_case}, Dropping.{is_dropping_due, dropped}, Step.Case.{Decides, Restarts}, Slice.{slice, numbers_of, most_numbers}};
+ghost use Rattle.spec_search.specs.{Step.{step, restarting, branching, case_of, after_case}, Dropping.{is_dropping_due, dropped, given_up}, Step.Case.{Decides, Restarts}, Slice.{slice, numbers_of, most_numbers}};
 ghost use Rattle.mal_learn.specs.Shown.{HasLeft};
 ghost use Rattle.mal_freeze.specs.Imaged.{IsImage};
 
@@ -31,6 +31,9 @@ const MOST_COUNTED: u32 = 1 << 31;
 
 /// What the number of derived clauses stays below before a slice.
 const MOST_DERIVED: u64 = 1 << 56;
+
+/// The least number of a derived clause.
+const FIRST_DERIVED: u64 = 1 << 32;
 
 /// A solver node over an engine of unit propagation: what it holds, how far its search has come, and what its last
 /// slice derived. The first assumptions that were found true are passed until a cut. Contracts see the record of its
@@ -173,6 +176,15 @@ impl<E: Listed> Node<E> {
             && self.restart_number < MOST_COUNTED
             && self.conflicts_since_dropping < MOST_COUNTED
             && self.serial < MOST_DERIVED
+    }
+
+    /// Gives up the clause of one number, where it is derived and no entry's reason. Takes no memory.
+    pub fn give_up(&mut self, id: ClauseId)
+        ensures { self.new.state ≡ given_up id self.old.state }
+    {
+        if id.number() >= FIRST_DERIVED && !mal_learn::is_reason(&self.trail, id, &[]) {
+            self.engine.forget(&mut [id]);
+        }
     }
 
     /// The verdict, if the search has ended.

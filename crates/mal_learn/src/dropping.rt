@@ -100,7 +100,7 @@ pub fn choose_longer_half<T: TrailView, E: Listed>(trail: &T, engine: &E, scratc
 }
 
 /// Whether an entry has the clause of this number as its reason.
-fn is_reason<T: TrailView>(trail: &T, id: ClauseId, lits: &[Lit]) -> bool
+pub fn is_reason<T: TrailView>(trail: &T, id: ClauseId, lits: &[Lit]) -> bool
     ensures { result ≡ is_reason (T.entries trail.now) (record { id = id; lits = lits.now }) }
 {
     // Asked of the trail, which has level 0 alone in a dropping and is short; marks would need a place for each number.

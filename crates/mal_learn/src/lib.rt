@@ -10,7 +10,7 @@ mod profile;
 mod scratch;
 mod work;
 
-pub use dropping::choose_longer_half;
+pub use dropping::{choose_longer_half, is_reason};
 pub use packing::packed;
 pub use profile::analyse_in;
 pub use scratch::{Scratch, analyse, final_core, shorten};

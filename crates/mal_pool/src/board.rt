@@ -46,6 +46,12 @@ pub trait Board: Desk + Drop {
         ensures one { IsWithin (Self.calls pass) (Self.calls result) }
         ensures both { IsWithin (Self.calls other) (Self.calls result) };
 
+    /// A thread begins to call the board: it posts, or gives back what it was leased, before it ends.
+    fn begin(&self) {}
+
+    /// A thread calls the board no more.
+    fn end(&self) {}
+
     /// Gives the hall that was called. It is in use only where the pass is not whole and a holder did not pass its turn on;
     /// the hall is given up then.
     fn close(self, pass: Self::Pass) -> Result<Hall, InUse>

@@ -3,6 +3,7 @@
 #![tactic(auto)]
 
 mod answering;
+mod bell;
 mod board;
 mod demand;
 mod due;

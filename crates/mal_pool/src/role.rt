@@ -60,6 +60,29 @@ pub fn play<R: Wait, B: Board, G: Gate>(
         × HasPlayed (G.stops gate.now) jobs.now role.part result.hindered result.stopped mine }
     ensures stopped { result.stopped ≡ true → StopsSomewhere (G.stops gate.now) }
 {
+    board.begin();
+    let played = play_part(rt, alloc, board, jobs, gate, role);
+    board.end();
+    played
+}
+
+/// Plays a part at a board that was told of it.
+fn play_part<R: Wait, B: Board, G: Gate>(
+    rt: &R,
+    alloc: Global,
+    board: &B,
+    jobs: &[ScriptJob],
+    gate: &G,
+    role: Role<B::Pass>,
+) -> Played<B::Pass>
+    requires of { B.is_of board.now role.pass }
+    requires fits { Fits (B.workers board.now) jobs.now role.part }
+    ensures of { B.is_of board.now result.pass }
+    ensures part { result.part ≡ role.part }
+    ensures played { (mine : List DeskCall) × (B.calls result.pass ≡ B.calls role.pass ++ mine)
+        × HasPlayed (G.stops gate.now) jobs.now role.part result.hindered result.stopped mine }
+    ensures stopped { result.stopped ≡ true → StopsSomewhere (G.stops gate.now) }
+{
     match role.part {
         Part::Poster(place) => {
             let tenant = jobs[place].tenant();

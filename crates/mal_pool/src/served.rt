@@ -2,17 +2,20 @@
 
 ghost use Rattle.std.specs.Prelude.{◌≡◌};
 
+use crate::bell::Bell;
 use crate::board::Board;
-use mal_hall::{Desk, FinishAnswer, Hall, PickAnswer, Post, PostFault, Size};
+use mal_hall::{Desk, FinishAnswer, Hall, Pick, PickAnswer, Post, PostFault, Size};
 use mal_service::{Pass, Service};
 use mal_suspend::Done;
 use mal_turn::InUse;
 use std::sync::Wait;
 
-/// A service at which tenants post and workers work.
+/// A service at which tenants post and workers work. A worker that there is nothing for sleeps until a post or what came
+/// back may have made work.
 #[derive(Drop)]
 pub struct Served<S: Size> {
     service: Service<S>,
+    bell: Bell,
 }
 
 impl<S: Size> Served<S> {
@@ -20,7 +23,10 @@ impl<S: Size> Served<S> {
     pub fn new(service: Service<S>) -> Served<S>
         ensures { result.service ≡ service }
     {
-        Served { service }
+        Served {
+            service,
+            bell: Bell::new(),
+        }
     }
 }
 
@@ -37,11 +43,21 @@ impl<S: Size + Send + Sync> Desk for Served<S> {
     ghost calls = { λ pass. calls_of (view pass) };
 
     fn pick<R: Wait>(&self, rt: &R, pass: Pass<S>, worker: u32) -> (Pass<S>, PickAnswer) {
-        self.service.pick(rt, pass, worker)
+        let heard = self.bell.heard();
+        let (pass, answer) = self.service.pick(rt, pass, worker);
+        match &answer {
+            // There may be more where this came from.
+            Ok(Pick::Leased(_)) => self.bell.ring(),
+            Ok(Pick::Idle) => self.bell.sleep(rt, heard),
+            _ => {}
+        }
+        (pass, answer)
     }
 
     fn finish<R: Wait>(&self, rt: &R, pass: Pass<S>, back: Done) -> (Pass<S>, FinishAnswer) {
-        self.service.give(rt, pass, back)
+        let (pass, answer) = self.service.give(rt, pass, back);
+        self.bell.ring();
+        (pass, answer)
     }
 }
 
@@ -55,7 +71,9 @@ impl<S: Size + Send + Sync> Board for Served<S> {
     ghost leaves = { λ pass history. LeavesHall S.workers history (view pass) };
 
     fn post<R: Wait>(&self, rt: &R, pass: Pass<S>, post: Post) -> (Pass<S>, Result<(), PostFault>) {
-        self.service.post(rt, pass, post)
+        let (pass, answer) = self.service.post(rt, pass, post);
+        self.bell.ring();
+        (pass, answer)
     }
 
     #[tactic(auto, using(crate::proofs::CallLemmas::split_calls, crate::proofs::CallLemmas::split_none))]
@@ -67,9 +85,17 @@ impl<S: Size + Send + Sync> Board for Served<S> {
         self.service.join(pass, other)
     }
 
+    fn begin(&self) {
+        self.bell.begin();
+    }
+
+    fn end(&self) {
+        self.bell.end();
+    }
+
     #[tactic(auto, using(crate::proofs::CallLosses::left_loses_none))]
     fn close(self, pass: Pass<S>) -> Result<Hall, InUse> {
-        let Served { service } = self;
+        let Served { service, .. } = self;
         match service.close(pass) {
             Ok(hall) => Ok(hall),
             Err(in_use) => Err(in_use),

@@ -24,6 +24,7 @@ pub mod UnknownLemmas
 pub mod UpToLemmas
 pub mod ReplyLemmas
 pub mod OnePassLemmas
+pub mod LastingLemmas
 -- what this crate alone cites
 mod ExampleLemmas
 mod ProfileExampleLemmas
@@ -51,3 +52,4 @@ mod UnknownExampleLemmas
 mod ExportedLemmas
 mod ExportedExampleLemmas
 mod UpToExampleLemmas
+mod LastingExampleLemmas

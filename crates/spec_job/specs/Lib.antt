@@ -23,3 +23,4 @@ pub mod ProfileExamples
 pub mod Exported
 pub mod DemandOneUpTo
 pub mod OnePass
+pub mod Lasting

@@ -2,7 +2,7 @@
 //! and the laws about them as the contracts of functions without a body.
 #![tactic(auto)]
 
-ghost use Rattle.spec_job.specs.{Counts.{ReplaysCount, RunsAreFew}, DemandOne.{NoneIsDue, SinglesAgree}, DemandOneUpTo.{HasUpTo, SinglesAgreeUpTo}, Examples.{HasExamples, HasExchanges, HasReasked, HasRefutations, HasRunnable}, Exported.{ExchangesTellDerived, ExportsAreDerived, HasUnexported}, Following.{RunnableJournalsFollow}, Lawful.{LawfulIsOnce, LawfulIsRunnable}, Left.{LeftFalls}, OnePass.{NoneBeforeMarks, OnePassFindsAll}, ProfileExamples.{HasProfiles}, Provenance.{RunnableClausesOwn}, Runnable.{AnswersStay, RunnableAnswersFollow, RunnableAnswersRefute, RunnableAnswersSolve, RunnableLogsDerived}, Unknown.{RunnableAnswersAccountedFor, RunnableFedAnswersDecide}, UnknownExamples.{HasEndings}};
+ghost use Rattle.spec_job.specs.{Counts.{ReplaysCount, RunsAreFew}, DemandOne.{NoneIsDue, SinglesAgree}, DemandOneUpTo.{HasUpTo, SinglesAgreeUpTo}, Examples.{HasExamples, HasExchanges, HasReasked, HasRefutations, HasRunnable}, Exported.{ExchangesTellDerived, ExportsAreDerived, HasUnexported}, Following.{RunnableJournalsFollow}, Lasting.{HasLasting, RepliesStay}, Lawful.{LawfulIsOnce, LawfulIsRunnable}, Left.{LeftFalls}, OnePass.{NoneBeforeMarks, OnePassFindsAll}, ProfileExamples.{HasProfiles}, Provenance.{RunnableClausesOwn}, Runnable.{AnswersStay, RunnableAnswersFollow, RunnableAnswersRefute, RunnableAnswersSolve, RunnableLogsDerived}, Unknown.{RunnableAnswersAccountedFor, RunnableFedAnswersDecide}, UnknownExamples.{HasEndings}};
 
 /// The worked examples of a job's machine compute to the answers that are known, under either profile of its solvers,
 /// and own events may happen as they should.
@@ -32,6 +32,12 @@ pub fn answers_refute()
 /// An answer that was given stays, whatever own events follow.
 pub fn answers_stay()
     ensures { AnswersStay }
+{}
+
+/// A reply that was told stays the same bytes, whatever own events follow that may happen.
+pub fn replies_stay()
+    ensures stay { RepliesStay }
+    ensures example { HasLasting }
 {}
 
 /// Replays bring the counts of a job's nodes no further than the slices that were run.

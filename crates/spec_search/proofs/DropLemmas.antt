@@ -56,7 +56,7 @@ original-spared trail clauses c h = spared trail clauses c (λ d q m.
     omega arith)
 
 -- filters of filters
-filter-again : (o p : NumberedClause → Bool) (cs : List NumberedClause) → ((c : NumberedClause) → o c ≡ true → p c ≡ true) → filter o (filter p cs) ≡ filter o cs
+pub filter-again : (o p : NumberedClause → Bool) (cs : List NumberedClause) → ((c : NumberedClause) → o c ≡ true → p c ≡ true) → filter o (filter p cs) ≡ filter o cs
 filter-again o p [] f = refl
 filter-again o p (c ∷ cs) f = by_test (filter-again o p cs f) (p c) refl (o c) refl
   where

@@ -1,10 +1,10 @@
 use Rattle.std.proofs.Common.{◌≡◌, ℕ, ◌+◌, ◌<◌, ◌≤◌, min, Bool, true, false, cond, not, List, [], ◌∷◌, ◌++◌, length, take, Option, Some, None, refl, sym, ap, ◌∙◌, subst, append_assoc, arith}
-use Rattle.std.specs.Prelude.{All, Contains, filter, ◌==◌}
+use Rattle.std.specs.Prelude.{All, Contains, filter, ◌==◌, ◌&&◌, ◌^◌, nat_lt, nat_le}
 use Rattle.std.specs.List.{list_any, list_all}
 use Rattle.std.specs.Option.{option_map_or}
 use Rattle.std.proofs.lemmas.List.{take_all}
-use Rattle.std.proofs.lemmas.List.Elements.{All-filter, All-contains, All-weaker}
-use Rattle.std.proofs.lemmas.Bool.{and_parts, and_from, or_left, or_right, eq-eqb}
+use Rattle.std.proofs.lemmas.List.Elements.{All-filter, All-contains, All-weaker, All-contains_itself}
+use Rattle.std.proofs.lemmas.Bool.{and_parts, and_from, or_left, or_right, eq-eqb, ne_eqb, both_ways, not-true, ltb-true, leb-true}
 use Rattle.mal_base.specs.NumberedClause.{NumberedClause}
 use Rattle.mal_base.specs.declared.trail_entry.TrailEntry.{TrailEntry}
 use Rattle.spec_node.specs.State.{Node}
@@ -12,6 +12,7 @@ use Rattle.spec_node.specs.Value.{level_of}
 use Rattle.spec_node.specs.Batch.{is_in_batch}
 use Rattle.spec_node.specs.Cut.{kept, removed, cut}
 use Rattle.spec_node.specs.Load.{is_derived}
+use Rattle.spec_node.specs.Laws.{originals}
 use Rattle.spec_node.specs.Sound.{EachAfter, IsClosed, IsForced, IsChosen, IsPassed, IsReason, AreSettled, AreLiteralsOf, left_is_true, serial_of, IsRanged, IsConsistent, IsSound}
 use Rattle.spec_node.proofs.TrailLemmas.{each-front, each-weaker}
 use Rattle.spec_node.proofs.SoundLemmas.{numbers-filter, length-saved, kept-short}
@@ -21,8 +22,9 @@ use Rattle.spec_search.proofs.StepLemmas.{IsIdle}
 use Rattle.spec_search.proofs.ConsistentLemmas.{cut-consistent}
 use Rattle.spec_node.specs.Adding.{forgetting}
 use Rattle.spec_learn.specs.Dropping.{is_reason, to_drop}
-use Rattle.spec_search.specs.DroppingLaws.{DropKeepsSound}
-use Rattle.spec_search.proofs.DropLemmas.{reason-spared, contains-filter}
+use Rattle.spec_search.specs.Dropping.{given_up}
+use Rattle.spec_search.specs.DroppingLaws.{DropKeepsSound, GivesUp}
+use Rattle.spec_search.proofs.DropLemmas.{reason-spared, contains-filter, filter-again}
 
 -- fewer clauses are settled where all are
 all-fewer : (f q p : NumberedClause → Bool) (cs : List NumberedClause) → list_all f (filter q cs) ≡ true → list_all f (filter q (filter p cs)) ≡ true
@@ -101,3 +103,38 @@ pub dropped-sound : DropKeepsSound
 dropped-sound n h calm past =
     fewer-sound (λ c. not (list_any (λ i. i == c.id) (to_drop (kept 0 n.trail) n.clauses))) 0 (cut 0 n) (cut-sound n h (record { calm = calm; handled = past })) calm
     (All-weaker (λ c. not (list_any (λ i. i == c.id) (to_drop (kept 0 n.trail) n.clauses)) ≡ true → Contains (forgetting (to_drop (kept 0 n.trail) n.clauses) n.clauses) c) (λ c. is_reason (kept 0 n.trail) c ≡ true → Contains (forgetting (to_drop (kept 0 n.trail) n.clauses) n.clauses) c) (λ c f q. f (reason-spared (kept 0 n.trail) n.clauses c q)) n.clauses (contains-filter (λ c. not (list_any (λ i. i == c.id) (to_drop (kept 0 n.trail) n.clauses))) n.clauses))
+
+-- one clause is given up
+pub gives-up : (id : ℕ) (n : Node) → GivesUp id n
+gives-up id n = by_test (nat_le (2 ^ 32) id && not (is_reason n.trail (record { id = id; lits = [] }))) refl
+  where
+    p : NumberedClause → Bool
+    p c = not (list_any (λ i. i == c.id) (id ∷ []))
+
+    other-kept : (c : NumberedClause) → (id == c.id) ≡ false → p c ≡ true
+    other-kept c q = rw q refl
+
+    original-kept : 2 ^ 32 ≤ id → (c : NumberedClause) → nat_lt c.id (2 ^ 32) ≡ true → p c ≡ true
+    original-kept high c k = let low : c.id < 2 ^ 32 = ltb-true c.id (2 ^ 32) k in other-kept c (ne_eqb id c.id (λ q. omega arith))
+
+    reason-kept : is_reason n.trail (record { id = id; lits = [] }) ≡ false → (c : NumberedClause) → is_reason n.trail c ≡ true → p c ≡ true
+    reason-kept none c k = other-kept c (ne_eqb id c.id (λ q. both_ways (is_reason n.trail c) (subst (λ (x : ℕ). is_reason n.trail (record { id = x; lits = c.lits }) ≡ false) q none) k))
+
+    by_test : (b : Bool) → (nat_le (2 ^ 32) id && not (is_reason n.trail (record { id = id; lits = [] }))) ≡ b → GivesUp id n
+    by_test true e =
+        let parts = and_parts (nat_le (2 ^ 32) id) (not (is_reason n.trail (record { id = id; lits = [] }))) e in
+        let high : 2 ^ 32 ≤ id = leb-true (2 ^ 32) id parts.0 in
+        let none : is_reason n.trail (record { id = id; lits = [] }) ≡ false = not-true (is_reason n.trail (record { id = id; lits = [] })) parts.1 in
+        let is : given_up id n ≡ record n { clauses = filter p n.clauses } = ap (λ (b : Bool). cond {A = Node} b (record n { clauses = filter p n.clauses }) n) e in
+        record {
+          sound = λ h calm. subst (λ (m : Node). IsSound m) (sym is) (fewer-sound p n.conflicts_since_dropping n h calm (All-weaker (λ c. p c ≡ true → Contains (filter p n.clauses) c) (λ c. is_reason n.trail c ≡ true → Contains (filter p n.clauses) c) (λ c f k. f (reason-kept none c k)) n.clauses (contains-filter p n.clauses)));
+          originals = ap (λ (m : Node). originals m.clauses) is ∙ filter-again (λ c. nat_lt c.id (2 ^ 32)) p n.clauses (original-kept high);
+          was = subst (λ (m : Node). All (Contains n.clauses) m.clauses) (sym is) (All-filter p (Contains n.clauses) n.clauses (All-contains_itself n.clauses));
+        }
+    by_test false e =
+        let is : given_up id n ≡ n = ap (λ (b : Bool). cond {A = Node} b (record n { clauses = filter p n.clauses }) n) e in
+        record {
+          sound = λ h calm. subst (λ (m : Node). IsSound m) (sym is) h;
+          originals = ap (λ (m : Node). originals m.clauses) is;
+          was = subst (λ (m : Node). All (Contains n.clauses) m.clauses) (sym is) (All-contains_itself n.clauses);
+        }

@@ -6,11 +6,11 @@ pub mod ModelLemmas
 pub mod CountLemmas
 pub mod LineLemmas
 pub mod LinesLemmas
+pub mod FewerLemmas
 -- what this crate alone cites
 mod ExampleLemmas
 mod ConsistentLemmas
 mod HintLemmas
 mod EmptyLemmas
 mod DropLemmas
-mod FewerLemmas
 mod OverLemmas

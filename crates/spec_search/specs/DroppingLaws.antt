@@ -12,7 +12,7 @@ use Rattle.spec_node.specs.Laws.{originals}
 use Rattle.spec_learn.specs.Dropping.{is_reason, may_go, longer_half, to_drop}
 use Rattle.spec_search.specs.Step.{Drops, Restarts, case_of, step}
 use Rattle.spec_search.specs.Slice.{Sliced, steps}
-use Rattle.spec_search.specs.Dropping.{is_dropping_due, dropped}
+use Rattle.spec_search.specs.Dropping.{is_dropping_due, dropped, given_up}
 
 -- a clause by its number and literals
 abbrev pub clause : ℕ → List ℕ → NumberedClause
@@ -61,6 +61,15 @@ pub record HasProfiles : Type 0 where
 -- dropping keeps a node sound
 abbrev pub DropKeepsSound : Type 0
 DropKeepsSound = (n : Node) → IsSound n → n.conflict ≡ None → length n.trail < n.processed → IsSound (dropped n)
+
+-- so does giving up one clause, which leaves the originals, and of what was held holds all others
+pub record GivesUp (id : ℕ) (n : Node) : Type 0 where
+  pub sound : IsSound n → n.conflict ≡ None → IsSound (given_up id n)
+  pub originals : originals (given_up id n).clauses ≡ originals n.clauses
+  pub was : All (Contains n.clauses) (given_up id n).clauses
+
+abbrev pub GivingUpKeepsSound : Type 0
+GivingUpKeepsSound = (id : ℕ) (n : Node) → GivesUp id n
 
 -- what dropping leaves: originals and reasons stay, and what is held was held; half of what may go goes, and the count
 -- begins anew

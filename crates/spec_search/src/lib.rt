@@ -2,7 +2,7 @@
 //! without a body.
 #![tactic(auto)]
 
-ghost use Rattle.spec_search.specs.{Examples.{HasExamples}, DroppingLaws.{DropKeepsSound, DropsHold, DropsWhenDue, HasDrops, HasProfiles}, Laws.{EmptyRefutes, HeldAreOfLines, LinesAreCounted, LinesAreDerived, LinesHaveRoom, LinesStayWithin, SliceCounts, SliceGoesOn, SliceKeepsModel, SliceKeepsProfile, SliceKeepsSound, SliceLeaves, SliceRefutes, SliceSolves, StepKeepsProfile, StepKeepsSound, StepLeaves, StepsLeave}};
+ghost use Rattle.spec_search.specs.{Examples.{HasExamples}, DroppingLaws.{DropKeepsSound, DropsHold, DropsWhenDue, HasDrops, HasProfiles, GivingUpKeepsSound}, Laws.{EmptyRefutes, HeldAreOfLines, LinesAreCounted, LinesAreDerived, LinesHaveRoom, LinesStayWithin, SliceCounts, SliceGoesOn, SliceKeepsModel, SliceKeepsProfile, SliceKeepsSound, SliceLeaves, SliceRefutes, SliceSolves, StepKeepsProfile, StepKeepsSound, StepLeaves, StepsLeave}};
 
 /// The worked examples of steps and slices compute to the answers that are known.
 pub fn search_examples()
@@ -64,4 +64,10 @@ pub fn drops_keep_sound()
     ensures sound { DropKeepsSound }
     ensures hold { DropsHold }
     ensures due { DropsWhenDue }
+{}
+
+/// A sound node in which no conflict waits stays sound when it gives up one derived clause that is no reason. Its
+/// originals stay.
+pub fn giving_up_keeps_sound()
+    ensures { GivingUpKeepsSound }
 {}

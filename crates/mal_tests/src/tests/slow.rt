@@ -60,6 +60,14 @@ impl<B: Board> Board for Slow<B> {
         self.board.join(pass, other)
     }
 
+    fn begin(&self) {
+        self.board.begin();
+    }
+
+    fn end(&self) {
+        self.board.end();
+    }
+
     fn close(self, pass: B::Pass) -> Result<Hall, InUse> {
         let Slow { board, turns: _ } = self;
         board.close(pass)

@@ -4,7 +4,7 @@ use Rattle.mal_pool.proofs.CallLemmas.{picked_calls, picked_is_own}
 use Rattle.mal_pool.proofs.served.ServedDesk.pick.Goals as goal
 
 pub returns-clause-calls : goal.returns-clause-calls
-returns-clause-calls g c = picked_calls g.S.Size.workers (view c.args.pass) (view c.pick.result.0) c.args.worker (offered c.pick.result.1) c.pick.ensures.entry
+returns-clause-calls g c = picked_calls g.S.Size.workers (view c.args.pass) (view c.pick-pass.result.0) c.args.worker (offered c.pick-pass.result.1) c.pick-pass.ensures.entry
 
 pub returns-clause-own : goal.returns-clause-own
-returns-clause-own g c = picked_is_own g.S.Size.workers (view c.args.pass) (view c.pick.result.0) c.args.worker (offered c.pick.result.1) c.pick.ensures.entry
+returns-clause-own g c = picked_is_own g.S.Size.workers (view c.args.pass) (view c.pick-pass.result.0) c.args.worker (offered c.pick-pass.result.1) c.pick-pass.ensures.entry

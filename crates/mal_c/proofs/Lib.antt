@@ -1,0 +1,5 @@
+mod Walking
+mod LooseParts
+mod HandleParts
+mod LaidLemmas
+mod Promised

@@ -1,0 +1,3 @@
+-- what this crate alone cites
+mod KernelLemmas
+mod SolverLemmas

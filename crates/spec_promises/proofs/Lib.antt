@@ -1,0 +1,17 @@
+mod Words
+mod Lines
+mod Tells
+mod Found
+mod Parcels
+mod Jobs
+mod Moved
+mod Replied
+mod Singles
+mod Steps
+mod Keyed
+mod Keys
+mod Used
+mod Bounded
+mod Clustered
+mod Searches
+mod Examples

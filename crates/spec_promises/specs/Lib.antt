@@ -1,0 +1,10 @@
+pub mod Tells
+pub mod Found
+pub mod Parcels
+pub mod Replied
+pub mod Singles
+pub mod Steps
+pub mod Keys
+pub mod Bounded
+pub mod Decided
+pub mod Examples

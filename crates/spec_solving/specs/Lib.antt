@@ -1,0 +1,4 @@
+pub mod Solving
+pub mod Holding
+pub mod Examples
+pub mod Calls
