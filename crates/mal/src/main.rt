@@ -1,8 +1,9 @@
 //! The program `mal`, over the standard streams.
 #![tactic(auto)]
 
-ghost use Rattle.std.specs.Prelude.{◌≡◌, [], IfErr, IsNone, IsSomeAnd};
+ghost use Rattle.std.specs.Prelude.{◌≡◌, [], IfErr, IfOk, IfSome, IsNone, IsSomeAnd};
 ghost use Rattle.std.specs.IoError.{error_kind};
+ghost use Rattle.std.specs.Vec.Iter.{into_iter_items};
 ghost use Rattle.std.specs.declared.io.ErrorKind.TheVariants.{InvalidData};
 
 use mal_cli::top;
@@ -38,12 +39,27 @@ fn main(rt: HostRuntime) -> ExitCode {
 /// The program's words, which are its arguments. Where one of these is not UTF-8 there are none, and no words ask for
 /// nothing. None where the arguments are not to be had for another cause, and where memory runs out.
 fn words_of(alloc: Global, args: io::Result<Args>) -> Option<Vec<String>>
+    ensures words { IfOk args (λ a. IfSome result (λ w. w.items ≡ into_iter_items a)) }
     ensures no_text { IfErr args (λ e. error_kind e ≡ InvalidData → IsSomeAnd result (λ w. w.items ≡ [])) }
     ensures no_words { IfErr args (λ e. (error_kind e ≡ InvalidData → ⊥) → IsNone result) }
 {
     match args {
-        Ok(all) => all.collect::<Vec<String>>(alloc).ok(),
+        Ok(all) => listed(alloc, all),
         Err(error) if error.kind() == ErrorKind::InvalidData => Some(Vec::new(alloc)),
         Err(_) => None,
     }
+}
+
+/// These words, in their order. None where memory runs out.
+fn listed(alloc: Global, args: Args) -> Option<Vec<String>>
+    ensures { IfSome result (λ w. w.items ≡ into_iter_items args) }
+{
+    let mut words = Vec::new(alloc);
+    for word in args {
+        if words.push(word).is_err() {
+            drop(words);
+            return None;
+        }
+    }
+    Some(words)
 }

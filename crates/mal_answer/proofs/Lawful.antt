@@ -11,13 +11,13 @@ use Rattle.mal_base.specs.Limits.{limits}
 use Rattle.spec_text.specs.Faults.{Fails, TellsBy}
 use Rattle.mal_answer.specs.Answers.{Complains, IsAnswerTo, NoLine}
 use Rattle.mal_answer.specs.Command.{Command, Denies, Grammar, IsLawful, IsRead, Refuses, TellsFaultOf, judging, making, reading}
-use Rattle.mal_answer.specs.Commands.{Stops, accounts, claims, command_of, core_inputs, descriptions, max_inputs, reads, scripts}
+use Rattle.mal_answer.specs.Commands.{Stops, accounts, claims, command_of, core_inputs, descriptions, feeds, max_inputs, reads, scripts}
 use Rattle.mal_answer.specs.Laws.{AreLawful, HaveOwnWords}
 use Rattle.mal_answer.specs.declared.answer.Complaint.{Complaint}
-use Rattle.mal_answer.proofs.Meanings.{check-words, cluster-words, core-words, gen-words, gen_run-words, json-words, max-words, replay-words, run-words}
+use Rattle.mal_answer.proofs.Meanings.{check-words, cluster-words, core-words, gen-words, gen_run-words, json-words, max-words, replay-words, run-words, serve-words}
 use Rattle.mal_answer.specs.Forms.{Form}
 use Rattle.mal_answer.specs.declared.words.request.Request.{Request}
-use Rattle.mal_answer.specs.declared.words.request.Request.TheVariants.{Run, Check, Replay, Generate, RunGenerated, Json, Cluster, Max, Core}
+use Rattle.mal_answer.specs.declared.words.request.Request.TheVariants.{Run, Check, Replay, Generate, RunGenerated, Json, Cluster, Max, Core, Serve}
 use Rattle.mal_answer.proofs.Complaints.{fault-refused, read-faulty}
 
 -- a text with a fault spells nothing
@@ -67,6 +67,9 @@ max_inputs-read text w is = (max-read text w).0 is
 pub core_inputs-read : IsRead core_inputs
 core_inputs-read text w is = (core-read text w).0 is
 
+pub feeds-read : IsRead feeds
+feeds-read text posts is = is
+
 -- so it is for each command of the program
 pub are-lawful : AreLawful
 are-lawful stops (Run workers) = reading-lawful _ _ _ scripts-read
@@ -78,6 +81,7 @@ are-lawful stops Json = reading-lawful _ _ _ descriptions-read
 are-lawful stops (Cluster halls workers every) = reading-lawful _ _ _ scripts-read
 are-lawful stops (Max slices) = reading-lawful _ _ _ max_inputs-read
 are-lawful stops (Core slices) = reading-lawful _ _ _ core_inputs-read
+are-lawful stops (Serve workers) = reading-lawful _ _ _ feeds-read
 
 pub have-own_words : HaveOwnWords
 have-own_words stops (Run workers) = run-words workers
@@ -89,6 +93,7 @@ have-own_words stops Json = json-words
 have-own_words stops (Cluster halls workers every) = cluster-words halls workers every
 have-own_words stops (Max slices) = max-words slices
 have-own_words stops (Core slices) = core-words slices
+have-own_words stops (Serve workers) = serve-words workers
 
 -- wherever workers are stopped, a request reads an input or none
 pub has_input-is : (stops : Stops) (r : Request) → (command_of stops r).has_input ≡ reads r
@@ -101,6 +106,7 @@ has_input-is stops Json = refl
 has_input-is stops (Cluster halls workers every) = refl
 has_input-is stops (Max slices) = refl
 has_input-is stops (Core slices) = refl
+has_input-is stops (Serve workers) = refl
 
 -- a line that tells the first fault of a text refuses it
 pub refuses : (c : Command) → IsLawful c → (text line : List ℕ) → c.TellsFirst text line → Refuses c text line

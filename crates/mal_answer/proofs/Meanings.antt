@@ -9,12 +9,12 @@ use Rattle.clap.specs.Words.{App, HasKind, IsAmong, Kinds, Row, Text, fault_of, 
 use Rattle.clap.specs.declared.error.Error.{Error}
 use Rattle.clap.specs.declared.error.kind.ErrorKind.TheVariants as kind
 use Rattle.mal_answer.specs.CommandLine.{mal_app, refusals, subcommand}
-use Rattle.mal_answer.specs.Forms.{Form, check_form, cluster_form, cluster_of, core_form, gen_form, generate_of, json_form, max_form, number_by, number_in, replay_form, run_form, slices_in}
+use Rattle.mal_answer.specs.Forms.{Form, check_form, cluster_form, cluster_of, core_form, gen_form, generate_of, json_form, max_form, number_by, number_in, replay_form, run_form, serve_form, slices_in}
 use Rattle.mal_answer.specs.Found.{IsMeaning}
 use Rattle.mal_answer.specs.WordLaws.{AskedIsAsks, OneMeaning}
 use Rattle.mal_answer.specs.Requests.{Asks, IsAskedBy, IsNumber, IsRequest, Means, MeansNothing, asked, asked_by, asked_in}
 use Rattle.mal_answer.specs.declared.words.request.Request.{Request}
-use Rattle.mal_answer.specs.declared.words.request.Request.TheVariants.{Run, Check, Replay, Generate, RunGenerated, Json, Cluster, Max, Core}
+use Rattle.mal_answer.specs.declared.words.request.Request.TheVariants.{Run, Check, Replay, Generate, RunGenerated, Json, Cluster, Max, Core, Serve}
 use Rattle.mal_answer.proofs.Decimals.{is-number, is-value, number-is, value-is}
 
 pub ruleset value_lemmas = (first_value-rows)
@@ -47,6 +47,12 @@ run-asks rows r e =
     let word : Option Text = first_of (codes "workers") rows in
     let m = mapped (λ w. Run w) (number_in 1 64 word) r e in
     subst (λ (q : Request). Asks (codes "run") rows q) m.2 (refl, is-value 1 64 m.0 word m.1)
+
+serve-asks : (rows : List Row) (r : Request) → serve_form.asks rows ≡ Some r → Asks (codes "serve") rows r
+serve-asks rows r e =
+    let word : Option Text = first_of (codes "workers") rows in
+    let m = mapped (λ w. Serve w) (number_in 1 64 word) r e in
+    subst (λ (q : Request). Asks (codes "serve") rows q) m.2 (refl, is-value 1 64 m.0 word m.1)
 
 max-asks : (rows : List Row) (r : Request) → max_form.asks rows ≡ Some r → Asks (codes "max") rows r
 max-asks rows r e =
@@ -88,14 +94,15 @@ named name form rows r same asks = subst (λ (t : Text). Asks t rows r) (sym sam
 
 asked-asks : (name : Text) (rows : List Row) (r : Request) → asked name rows ≡ Some r → Asks name rows r
 asked-asks name rows r e =
-    by-form run_form (check_form ∷ replay_form ∷ gen_form ∷ json_form ∷ cluster_form ∷ max_form ∷ core_form ∷ []) name rows r (Asks name rows r) e (λ n a. named name (codes "run") rows r n (run-asks rows r a)) (λ e.
-    by-form check_form (replay_form ∷ gen_form ∷ json_form ∷ cluster_form ∷ max_form ∷ core_form ∷ []) name rows r (Asks name rows r) e (λ n a. subst (λ (q : Request). Asks name rows q) (some-is Check r a) n) (λ e.
-    by-form replay_form (gen_form ∷ json_form ∷ cluster_form ∷ max_form ∷ core_form ∷ []) name rows r (Asks name rows r) e (λ n a. subst (λ (q : Request). Asks name rows q) (some-is Replay r a) n) (λ e.
-    by-form gen_form (json_form ∷ cluster_form ∷ max_form ∷ core_form ∷ []) name rows r (Asks name rows r) e (λ n a. named name (codes "gen") rows r n (gen-asks rows r _ _ _ refl refl refl a)) (λ e.
-    by-form json_form (cluster_form ∷ max_form ∷ core_form ∷ []) name rows r (Asks name rows r) e (λ n a. subst (λ (q : Request). Asks name rows q) (some-is Json r a) n) (λ e.
-    by-form cluster_form (max_form ∷ core_form ∷ []) name rows r (Asks name rows r) e (λ n a. named name (codes "cluster") rows r n (cluster-asks rows r _ _ _ refl refl refl a)) (λ e.
-    by-form max_form (core_form ∷ []) name rows r (Asks name rows r) e (λ n a. named name (codes "max") rows r n (max-asks rows r a)) (λ e.
-    by-form core_form [] name rows r (Asks name rows r) e (λ n a. named name (codes "core") rows r n (core-asks rows r a)) (λ e. cc))))))))
+    by-form run_form (check_form ∷ replay_form ∷ gen_form ∷ json_form ∷ cluster_form ∷ max_form ∷ core_form ∷ serve_form ∷ []) name rows r (Asks name rows r) e (λ n a. named name (codes "run") rows r n (run-asks rows r a)) (λ e.
+    by-form check_form (replay_form ∷ gen_form ∷ json_form ∷ cluster_form ∷ max_form ∷ core_form ∷ serve_form ∷ []) name rows r (Asks name rows r) e (λ n a. subst (λ (q : Request). Asks name rows q) (some-is Check r a) n) (λ e.
+    by-form replay_form (gen_form ∷ json_form ∷ cluster_form ∷ max_form ∷ core_form ∷ serve_form ∷ []) name rows r (Asks name rows r) e (λ n a. subst (λ (q : Request). Asks name rows q) (some-is Replay r a) n) (λ e.
+    by-form gen_form (json_form ∷ cluster_form ∷ max_form ∷ core_form ∷ serve_form ∷ []) name rows r (Asks name rows r) e (λ n a. named name (codes "gen") rows r n (gen-asks rows r _ _ _ refl refl refl a)) (λ e.
+    by-form json_form (cluster_form ∷ max_form ∷ core_form ∷ serve_form ∷ []) name rows r (Asks name rows r) e (λ n a. subst (λ (q : Request). Asks name rows q) (some-is Json r a) n) (λ e.
+    by-form cluster_form (max_form ∷ core_form ∷ serve_form ∷ []) name rows r (Asks name rows r) e (λ n a. named name (codes "cluster") rows r n (cluster-asks rows r _ _ _ refl refl refl a)) (λ e.
+    by-form max_form (core_form ∷ serve_form ∷ []) name rows r (Asks name rows r) e (λ n a. named name (codes "max") rows r n (max-asks rows r a)) (λ e.
+    by-form core_form (serve_form ∷ []) name rows r (Asks name rows r) e (λ n a. named name (codes "core") rows r n (core-asks rows r a)) (λ e.
+    by-form serve_form [] name rows r (Asks name rows r) e (λ n a. named name (codes "serve") rows r n (serve-asks rows r a)) (λ e. cc)))))))))
 
 -- what a subcommand asks for is its form's
 as-named : (name form : Text) (rows : List Row) (r : Request) → name ≡ form → asked form rows ≡ Some r → asked name rows ≡ Some r
@@ -140,6 +147,9 @@ max-words n name rows a = (a.0, ap (λ (o : Option ℕ). option_map (λ m. Max m
 pub core-words : (n : ℕ) → IsAskedBy core_form (Core n)
 core-words n name rows a = (a.0, ap (λ (o : Option ℕ). option_map (λ m. Core m) o) (value-is 1 limits.slices n (first_of (codes "slices") rows) (omega arith) a.1))
 
+pub serve-words : (w : ℕ) → IsAskedBy serve_form (Serve w)
+serve-words w name rows a = (a.0, ap (λ (o : Option ℕ). option_map (λ n. Serve n) o) (value-is 1 64 w (first_of (codes "workers") rows) (omega arith) a.1))
+
 asks-asked : (name : Text) (rows : List Row) (r : Request) → Asks name rows r → asked name rows ≡ Some r
 asks-asked name rows (Run w) a = let own = run-words w name rows a in as-named name (codes "run") rows (Run w) own.0 own.1
 asks-asked name rows Check a = as-named name (codes "check") rows Check a refl
@@ -150,6 +160,7 @@ asks-asked name rows Json a = as-named name (codes "json") rows Json a refl
 asks-asked name rows (Cluster h w k) a = let own = cluster-words h w k name rows a in as-named name (codes "cluster") rows (Cluster h w k) own.0 own.1
 asks-asked name rows (Max n) a = let own = max-words n name rows a in as-named name (codes "max") rows (Max n) own.0 own.1
 asks-asked name rows (Core n) a = let own = core-words n name rows a in as-named name (codes "core") rows (Core n) own.0 own.1
+asks-asked name rows (Serve w) a = let own = serve-words w name rows a in as-named name (codes "serve") rows (Serve w) own.0 own.1
 
 pub asked-is_asks : AskedIsAsks
 asked-is_asks name rows r = (asked-asks name rows r, asks-asked name rows r)
@@ -201,6 +212,7 @@ asks-request name rows (Cluster halls workers every) a =
     let h = in-range 2 8 halls _ a.1 in let w = in-range 1 64 workers _ a.2 in let k = in-range 1 1000 every _ a.3 in (h.0, h.1, w.0, w.1, k.0, k.1)
 asks-request name rows (Max slices) a = in-range 1 limits.slices slices _ a.1
 asks-request name rows (Core slices) a = in-range 1 limits.slices slices _ a.1
+asks-request name rows (Serve workers) a = in-range 1 64 workers _ a.1
 
 pub means-request : (words : List Text) (o : Option Request) → IsMeaning o words → IfSome o (λ r. IsRequest r)
 means-request words None m = tt

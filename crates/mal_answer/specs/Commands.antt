@@ -2,9 +2,9 @@
 use Rattle.std.specs.Prelude.{◌≡◌, ◌⊎◌, ℕ, Bool, true, false, List, [], ◌∷◌, slice_get, codes, Some, Ok}
 use Rattle.std.specs.List.{list_all, list_any}
 use Rattle.mal_history.specs.Written.{line_at}
-use Rattle.mal_answer.specs.Forms.{check_form, cluster_form, core_form, gen_form, json_form, max_form, replay_form, run_form}
+use Rattle.mal_answer.specs.Forms.{check_form, cluster_form, core_form, gen_form, json_form, max_form, replay_form, run_form, serve_form}
 use Rattle.mal_answer.specs.declared.words.request.Request.{Request}
-use Rattle.mal_answer.specs.declared.words.request.Request.TheVariants.{Run, Check, Replay, Generate, RunGenerated, Json, Max, Core}
+use Rattle.mal_answer.specs.declared.words.request.Request.TheVariants.{Run, Check, Replay, Generate, RunGenerated, Json, Max, Core, Serve}
 use Rattle.mal_answer.specs.declared.words.request.Request.TheVariants as request
 use Rattle.mal_account.specs.Accounts.{Account}
 use Rattle.mal_account.specs.Accounts as account
@@ -27,6 +27,10 @@ use Rattle.mal_max.specs.Grammar as max_texts
 use Rattle.mal_max.specs.Reading as max_reading
 use Rattle.mal_max.specs.Texts.{optimum_text}
 use Rattle.spec_core.specs.Core as spec_core
+use Rattle.spec_feed.specs.FaultLines as feed_lines
+use Rattle.spec_feed.specs.Reading as feed
+use Rattle.spec_feed.specs.declared.fault.FeedFault.{FeedFault}
+use Rattle.spec_feed.specs.declared.post.FeedPost.{FeedPost}
 use Rattle.spec_json.specs.FaultLines as json_lines
 use Rattle.spec_json.specs.Grammar as json_texts
 use Rattle.spec_json.specs.Reading as json
@@ -39,6 +43,7 @@ use Rattle.spec_hall.specs.Driven.{IsDriven}
 use Rattle.spec_hall.specs.Events.{Event}
 use Rattle.spec_hall.specs.Own.{own}
 use Rattle.spec_job.specs.Unknown.{is_fed}
+use Rattle.spec_live.specs.Live.{IsServing}
 use Rattle.spec_logic.specs.Logic.{IsUnsatisfiable}
 use Rattle.spec_logic.specs.Refutation.{IsRefutation}
 use Rattle.spec_max.specs.Optimum as spec_max
@@ -114,8 +119,8 @@ pub record Verifies (text : List ℕ) : Type 0 where
   pub proved : IsProved claim
   pub unsatisfiable : IsUnsatisfiable claim.formula.clauses claim.assumptions
 
--- the grammars of inputs: scripts, claims, accounts, descriptions, formulas with soft literals, and formulas with
--- assumptions
+-- the grammars of inputs: scripts, claims, accounts, descriptions, formulas with soft literals, formulas with
+-- assumptions, and feeds
 abbrev pub scripts : Grammar Scripted (ℕ × LineFault)
 scripts = record { Spells = Spells limits; read = read_text limits; line_of = λ e. fault_line e.0 e.1 }
 
@@ -133,6 +138,10 @@ max_inputs = record { Spells = max_texts.Spells; read = max_reading.read_text; l
 
 abbrev pub core_inputs : Grammar spec_core.Instance Fault
 core_inputs = record { Spells = core_texts.Spells; read = core_reading.read_text; line_of = core_lines.fault_line }
+
+-- of a feed, which its grammar spells just where reading gives it
+abbrev pub feeds : Grammar (List FeedPost) (ℕ × FeedFault)
+feeds = record { Spells = λ text posts. feed.read_feed limits text ≡ Ok posts; read = feed.read_feed limits; line_of = λ e. feed_lines.fault_line e.0 e.1 }
 
 -- the script that a description spells is written, and is read again from what is written
 pub record IsWritten (s : Scripted) (log out : List ℕ) : Type 0 where
@@ -209,6 +218,10 @@ optimizing slices = reading max_form max_inputs (IsOptimized slices)
 abbrev pub minimizing : ℕ → Command
 minimizing slices = reading core_form core_inputs (IsMinimized slices)
 
+-- `serve`: what a feed posts is served as it comes
+abbrev pub serving : ℕ → Command
+serving workers = reading serve_form feeds (IsServing workers)
+
 -- the command that is asked for, where workers are stopped there
 abbrev pub command_of : Stops → Request → Command
 command_of stops (Run workers) = running stops workers
@@ -220,6 +233,7 @@ command_of stops Json = describing
 command_of stops (request.Cluster halls workers every) = clustering halls workers every
 command_of stops (Max slices) = optimizing slices
 command_of stops (Core slices) = minimizing slices
+command_of stops (Serve workers) = serving workers
 
 -- whether a request reads an input
 abbrev pub reads : Request → Bool

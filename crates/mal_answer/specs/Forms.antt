@@ -5,7 +5,7 @@ use Rattle.std.specs.Str.Parse.{digits_value}
 use Rattle.mal_base.specs.Limits.{limits}
 use Rattle.clap.specs.Walk.{Row, Text, first_of}
 use Rattle.mal_answer.specs.declared.words.request.Request.{Request}
-use Rattle.mal_answer.specs.declared.words.request.Request.TheVariants.{Run, Check, Replay, Generate, RunGenerated, Json, Cluster, Max, Core}
+use Rattle.mal_answer.specs.declared.words.request.Request.TheVariants.{Run, Check, Replay, Generate, RunGenerated, Json, Cluster, Max, Core, Serve}
 
 -- an option `--name VALUE`: the letter that stands for its value, and whether it has to be given
 pub record Opt : Type 0 where
@@ -97,6 +97,13 @@ core_form = record {
   asks = λ rows. option_map (λ slices. Core slices) (slices_in rows);
 }
 
+abbrev pub serve_form : Form
+serve_form = record {
+  name = codes "serve";
+  options = record { name = codes "workers"; value = codes "N"; required = true } ∷ [];
+  asks = λ rows. option_map (λ workers. Serve workers) (number_in 1 64 (first_of (codes "workers") rows));
+}
+
 -- the commands, in the order in which the line of usage lists them
 abbrev pub forms : List Form
-forms = run_form ∷ check_form ∷ replay_form ∷ gen_form ∷ json_form ∷ cluster_form ∷ max_form ∷ core_form ∷ []
+forms = run_form ∷ check_form ∷ replay_form ∷ gen_form ∷ json_form ∷ cluster_form ∷ max_form ∷ core_form ∷ serve_form ∷ []

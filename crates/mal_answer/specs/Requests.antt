@@ -5,7 +5,7 @@ use Rattle.clap.specs.Walk.{Row, Text, first_of}
 use Rattle.mal_answer.specs.CommandLine.{refusals, subcommand}
 use Rattle.mal_answer.specs.Forms.{Form, forms}
 use Rattle.mal_answer.specs.declared.words.request.Request.{Request}
-use Rattle.mal_answer.specs.declared.words.request.Request.TheVariants.{Run, Check, Replay, Generate, RunGenerated, Json, Cluster, Max, Core}
+use Rattle.mal_answer.specs.declared.words.request.Request.TheVariants.{Run, Check, Replay, Generate, RunGenerated, Json, Cluster, Max, Core, Serve}
 
 -- the value of an option is a number in decimal digits, without a sign and without a leading zero
 abbrev pub IsNumber : ℕ → ℕ → ℕ → Option Text → Type 0
@@ -27,6 +27,7 @@ Asks name rows (Cluster halls workers every) =
     (name ≡ codes "cluster") × IsNumber 2 8 halls (first_of (codes "halls") rows) × IsNumber 1 64 workers (first_of (codes "workers") rows) × IsNumber 1 1000 every (first_of (codes "every") rows)
 Asks name rows (Max slices) = (name ≡ codes "max") × IsNumber 1 limits.slices slices (first_of (codes "slices") rows)
 Asks name rows (Core slices) = (name ≡ codes "core") × IsNumber 1 limits.slices slices (first_of (codes "slices") rows)
+Asks name rows (Serve workers) = (name ≡ codes "serve") × IsNumber 1 64 workers (first_of (codes "workers") rows)
 
 -- a request is asked for by the words of this command alone
 abbrev pub IsAskedBy : Form → Request → Type 0
@@ -67,3 +68,4 @@ IsRequest Json = Unit {0}
 IsRequest (Cluster halls workers every) = (2 ≤ halls) × (halls ≤ 8) × (1 ≤ workers) × (workers ≤ 64) × (1 ≤ every) × (every ≤ 1000)
 IsRequest (Max slices) = (1 ≤ slices) × (slices ≤ limits.slices)
 IsRequest (Core slices) = (1 ≤ slices) × (slices ≤ limits.slices)
+IsRequest (Serve workers) = (1 ≤ workers) × (workers ≤ 64)

@@ -1,7 +1,7 @@
 -- What words ask for.
 use Rattle.std.specs.Prelude.{[], ◌∷◌, codes}
 use Rattle.mal_answer.specs.Requests.{Means, MeansNothing}
-use Rattle.mal_answer.specs.declared.words.request.Request.TheVariants.{Run, Check, Replay, Generate, RunGenerated, Json, Cluster, Max, Core}
+use Rattle.mal_answer.specs.declared.words.request.Request.TheVariants.{Run, Check, Replay, Generate, RunGenerated, Json, Cluster, Max, Core, Serve}
 
 -- worked examples
 pub record HasExamples : Type 0 where
@@ -15,6 +15,7 @@ pub record HasExamples : Type 0 where
   pub cluster : Means (codes "mal" ∷ codes "cluster" ∷ codes "--every=1000" ∷ codes "--halls" ∷ codes "2" ∷ codes "--workers=1" ∷ []) (Cluster 2 1 1000)
   pub max : Means (codes "mal" ∷ codes "max" ∷ codes "--slices" ∷ codes "4096" ∷ []) (Max 4096)
   pub core : Means (codes "mal" ∷ codes "core" ∷ codes "--slices=1" ∷ []) (Core 1)
+  pub serve : Means (codes "mal" ∷ codes "serve" ∷ codes "--workers" ∷ codes "2" ∷ []) (Serve 2)
   pub no_words : MeansNothing []
   pub nothing : MeansNothing (codes "mal" ∷ [])
   pub unknown : MeansNothing (codes "mal" ∷ codes "fly" ∷ [])

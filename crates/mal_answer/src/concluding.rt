@@ -8,19 +8,19 @@ use mal_hall::Hall;
 use mal_io::{Sink, WriteFault, write_all};
 
 /// The texts of a command were written whole.
-const DONE: u8 = 0;
+pub const DONE: u8 = 0;
 
 /// The words ask for nothing.
 pub const BAD_WORDS: u8 = 2;
 
 /// The input is too long, or not in the command's grammar.
-const REFUSED: u8 = 3;
+pub const REFUSED: u8 = 3;
 
 /// The source failed.
-const READ_FAULT: u8 = 4;
+pub const READ_FAULT: u8 = 4;
 
 /// A sink failed.
-const WRITE_FAULT: u8 = 5;
+pub const WRITE_FAULT: u8 = 5;
 
 /// Memory ran out.
 pub const OUT_OF_MEMORY: u8 = 6;

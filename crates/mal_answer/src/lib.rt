@@ -15,7 +15,9 @@ mod words;
 
 pub use answer::{Complaint, Texts};
 pub use checking::check;
-pub use concluding::{BAD_WORDS, OUT_OF_MEMORY, complain, conclude};
+pub use concluding::{
+    BAD_WORDS, DONE, OUT_OF_MEMORY, READ_FAULT, REFUSED, WRITE_FAULT, complain, conclude,
+};
 pub use describing::describe;
 pub use generating::generate_text;
 pub use laws::{

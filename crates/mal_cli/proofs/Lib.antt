@@ -5,3 +5,4 @@ pub mod SearchLemmas
 pub mod Replays
 pub mod Rules
 mod Stopping
+mod LiveLemmas

@@ -1,3 +1,4 @@
 pub mod Accounts
 pub mod Clusters
 pub mod Stopping
+pub mod Live

@@ -14,7 +14,8 @@ use Rattle.mal_service.specs.Entries.{noted_in}
 use Rattle.mal_service.specs.Record.{StandsFor}
 use Rattle.mal_turn.specs.contracts.table.TokenOf as TokenOf
 use Rattle.mal_turn.proofs.table.Turn.TheSendSync as turn
-use Rattle.mal_pool.specs.contracts.bell.Bell as Bell
+use Rattle.mal_bell.specs.contracts.Bell as Bell
+use Rattle.std.specs.contracts.sync.atomic.AtomicU64 as Atomic
 use Rattle.mal_pool.specs.contracts.served.Served as Served
 
 hall-send : IsSend Hall.the_row
@@ -25,6 +26,9 @@ entry-send = search (sendable, crosses) depth 60
 
 bell-sync : IsSync Bell.the_field.row
 bell-sync = search (sendable, crosses) depth 40
+
+awake-sync : IsSync Atomic.the_field.row
+awake-sync = search (sendable, crosses) depth 20
 
 module _ (S : RattleType) (g : Size.Ghosts S.Denot) where
   noted-send : IsSend S → IsSend (NotedHall.the_row S g)
@@ -37,4 +41,4 @@ module _ (S : RattleType) (g : Size.Ghosts S.Denot) where
   service-sync s = struct_sync (shape (Service.the_type S g)) (turn.the_field_sync (NotedHall.the_row S g) Entry.the_row (record { stands = λ x log. StandsFor g.workers x.hall.events log; last = λ x. noted_in x.noted }) (noted-send s), tt)
 
   pub board-sync : IsSend S → IsSync (Served.the_row S g)
-  board-sync s = recorded_sync _ _ _ (Served.the_type S g).to_one (struct_sync (shape (Served.the_type S g)) (service-sync s, (bell-sync, tt)))
+  board-sync s = recorded_sync _ _ _ (Served.the_type S g).to_one (struct_sync (shape (Served.the_type S g)) (service-sync s, (bell-sync, (awake-sync, tt))))

@@ -3,7 +3,6 @@
 #![tactic(auto)]
 
 mod answering;
-mod bell;
 mod board;
 mod demand;
 mod due;
@@ -21,7 +20,7 @@ mod working;
 pub use answering::{replies, replies_by};
 pub use board::Board;
 pub use gate::{Gate, PlainGate, Point, Step};
-pub use laws::{loops_end_so, records_lose_none};
+pub use laws::loops_end_so;
 pub use mal_turn::InUse;
 pub use run::{run_all, run_with};
 pub use running::{post_script, run_alone};

@@ -2,20 +2,22 @@
 
 ghost use Rattle.std.specs.Prelude.{◌≡◌};
 
-use crate::bell::Bell;
 use crate::board::Board;
+use mal_bell::Bell;
 use mal_hall::{Desk, FinishAnswer, Hall, Pick, PickAnswer, Post, PostFault, Size};
 use mal_service::{Pass, Service};
 use mal_suspend::Done;
 use mal_turn::InUse;
 use std::sync::Wait;
+use std::sync::atomic::{AtomicU64, Ordering};
 
 /// A service at which tenants post and workers work. A worker that there is nothing for sleeps until a post or what came
-/// back may have made work.
+/// back may have made work, but one thread is always left awake.
 #[derive(Drop)]
 pub struct Served<S: Size> {
     service: Service<S>,
     bell: Bell,
+    awake: AtomicU64,
 }
 
 impl<S: Size> Served<S> {
@@ -26,7 +28,16 @@ impl<S: Size> Served<S> {
         Served {
             service,
             bell: Bell::new(),
+            awake: AtomicU64::new(0),
         }
+    }
+
+    /// Sleeps while the bell has not rung since it had rung so often, unless no other thread is awake.
+    fn sleep<R: Wait>(&self, rt: &R, heard: u64) {
+        if self.awake.fetch_sub(1, Ordering::SeqCst) > 1 {
+            self.bell.sleep(rt, heard);
+        }
+        self.awake.fetch_add(1, Ordering::SeqCst);
     }
 }
 
@@ -48,7 +59,7 @@ impl<S: Size + Send + Sync> Desk for Served<S> {
         match &answer {
             // There may be more where this came from.
             Ok(Pick::Leased(_)) => self.bell.ring(),
-            Ok(Pick::Idle) => self.bell.sleep(rt, heard),
+            Ok(Pick::Idle) => self.sleep(rt, heard),
             _ => {}
         }
         (pass, answer)
@@ -86,11 +97,13 @@ impl<S: Size + Send + Sync> Board for Served<S> {
     }
 
     fn begin(&self) {
-        self.bell.begin();
+        self.awake.fetch_add(1, Ordering::SeqCst);
     }
 
     fn end(&self) {
-        self.bell.end();
+        // The others look for themselves.
+        self.awake.fetch_sub(1, Ordering::SeqCst);
+        self.bell.ring_all();
     }
 
     #[tactic(auto, using(crate::proofs::CallLosses::left_loses_none))]

@@ -7,6 +7,7 @@ use Rattle.std.specs.Cmp.Lexicographic.{slice_cmp}
 use Rattle.std.specs.Map.{count_at}
 use Rattle.std.specs.declared.cmp.Ordering.{Ordering}
 use Rattle.std.specs.Ordering.{nat_cmp, ordering_then}
+use Rattle.mal_script.specs.declared.taken.TakenNames.{TakenNames}
 use Rattle.spec_script.specs.Script.{ScriptedJob}
 use Rattle.spec_script.specs.Reading.{is_job, is_of}
 
@@ -30,3 +31,7 @@ jobs_at counts tenant = count_at (tree.get name_cmp counts) tenant
 pub record AreTaken (jobs : List ScriptedJob) (names : BTreeMap (List ℕ × List ℕ) ℕ) (counts : BTreeMap (List ℕ) ℕ) : Type 0 where
   pub named : (tenant name : List ℕ) → is_some (kept_at names tenant name) ≡ list_any (is_job tenant name) jobs
   pub counted : (tenant : List ℕ) → jobs_at counts tenant ≡ count_by (is_of tenant) jobs
+
+-- these names are those of the jobs
+abbrev pub TakenBy : List ScriptedJob → TakenNames → Type 0
+TakenBy jobs names = AreTaken jobs names.places names.counts

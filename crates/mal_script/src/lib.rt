@@ -1,4 +1,4 @@
-//! Scripts: reading and writing them.
+//! Scripts: reading and writing them, and the parts of which other readers of jobs are made.
 #![tactic(auto)]
 
 mod asks;
@@ -14,12 +14,14 @@ mod taken;
 mod telling;
 mod writing;
 
+pub use asks::asked;
 pub use assuming::{assumptions, literals};
-pub use fault::{AssumptionFault, ScriptFault};
+pub use fault::{AssumptionFault, LineRefusal, ScriptFault};
 pub use generating::generate;
+pub use opened::{OpenJob, SplitLine};
 pub use reading::read;
 pub use script::{Script, ScriptJob, revisions_of};
 pub use spec_script::Step;
-pub use taken::is_among;
+pub use taken::{TakenNames, is_among};
 pub use telling::{fault_line, line_fault_line, which_word};
 pub use writing::write;

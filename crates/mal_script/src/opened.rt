@@ -241,6 +241,13 @@ impl OpenJob {
         Err(LineRefusal::Fault(LineFault::BadLine))
     }
 
+    /// What was read of the job.
+    pub fn job(&self) -> &ScriptJob
+        ensures { result.now ≡ self.now.job }
+    {
+        &self.job
+    }
+
     /// The job, without its block.
     pub fn into_job(self) -> ScriptJob
         ensures { result ≡ self.job }

@@ -15,6 +15,7 @@ use Rattle.mal_base.specs.declared.hall_fault.CloseFault.TheVariants as closing
 use Rattle.mal_base.specs.declared.hall_fault.ReplyFault.TheVariants as asking
 use Rattle.spec_hall.specs.Events.{Event}
 use Rattle.spec_hall.specs.Own.{own}
+use Rattle.spec_run.specs.Losses.{NoneIsLost}
 use Rattle.mal_service.specs.Record.{Answered, Opened, Revised, Reasked, Closed, Asked, Picked, Gave, AreAnsweredFrom, Entry, IsLegal, Record, entry, events_of}
 use Rattle.mal_service.specs.Passes.{Enters}
 
@@ -61,3 +62,7 @@ AgreeingTellEqual =
     (workers others : ℕ) (before after early late : View Entry) (k : Key) (r : ℕ) (text other : Option (List ℕ))
     → Enters workers before (Asked k r (Ok text)) after → Enters others early (Asked k r (Ok other)) late
     → own k (events_of after.seen) ≡ own k (events_of late.seen) → text ≡ other
+
+-- no lease is lost in a legal record
+abbrev pub RecordsLoseNone : Type 0
+RecordsLoseNone = (workers : ℕ) (log : Record) → IsLegal workers log → NoneIsLost (events_of log)

@@ -3,3 +3,4 @@ pub mod Passes
 pub mod Laws
 pub mod Entries
 pub mod Posts
+pub mod News

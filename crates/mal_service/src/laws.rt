@@ -1,6 +1,6 @@
 //! Laws about records and passes, as the contracts of functions without a body.
 
-ghost use Rattle.mal_service.specs.Laws.{AgreeingTellEqual, AnswersAreLegal, OpenedIsFound, RepliesAreSolo};
+ghost use Rattle.mal_service.specs.Laws.{AgreeingTellEqual, AnswersAreLegal, OpenedIsFound, RecordsLoseNone, RepliesAreSolo};
 
 /// A record of which each answer and its events are those of the hall's call at that point has a legal history.
 pub fn answers_make_a_legal_record()
@@ -18,4 +18,9 @@ pub fn opened_job_is_found()
 pub fn replies_are_solo()
     ensures solo { RepliesAreSolo }
     ensures agree { AgreeingTellEqual }
+{}
+
+/// No lease is lost in a legal record: no call of a service recalls one.
+pub fn records_lose_none()
+    ensures { RecordsLoseNone }
 {}

@@ -5,12 +5,16 @@
 mod entry;
 mod hall_call;
 mod laws;
+mod news;
 mod noted;
 mod service;
 
 pub use entry::Entry;
-pub use laws::{answers_make_a_legal_record, opened_job_is_found, replies_are_solo};
+pub use laws::{
+    answers_make_a_legal_record, opened_job_is_found, records_lose_none, replies_are_solo,
+};
 pub use mal_hall::Size;
 pub use mal_turn::InUse;
+pub use news::{Looked, News, news_of};
 pub use noted::NotedHall;
 pub use service::{Pass, Service};

@@ -3,10 +3,11 @@ ghost use Rattle.std.specs.Prelude.{◌≡◌, ◌≤◌, [], IfOk, IfErr};
 ghost use Rattle.mal_hall.specs.Offered.{offered, replied, returned};
 ghost use Rattle.spec_hall.specs.Dressed.{keyed};
 ghost use Rattle.mal_service.specs.{Passes.{HasNoted}, Record.{Asked, Picked, Gave}};
-ghost use Rattle.mal_service.specs.{Entries.{noted_in}, Posts.{HoldsOfPost}};
+ghost use Rattle.mal_service.specs.{Entries.{noted_in}, News.{AreNews}, Posts.{HoldsOfPost}};
 
 use crate::entry::Entry;
 use crate::hall_call::HallCall;
+use crate::news::{Looked, news_of};
 use mal_base::Name;
 use mal_hall::{Back, Hall, Pick, PickFault, Post, PostFault, ReplyFault, Size, Strange};
 use mal_suspend::Done;
@@ -97,6 +98,26 @@ impl<S: Size> NotedHall<S> {
         };
         self.noted = Some(Entry::of(told, before, &self.hall));
         answer
+    }
+
+    /// Asks for the reply to a job's revision, notes the call, and tells what was entered since so many events.
+    pub(crate) fn look(
+        &mut self,
+        alloc: Global,
+        tenant: &Name,
+        job: &Name,
+        r: u32,
+        from: usize,
+    ) -> Looked
+        ensures call { HasNoted S.workers self.old.hall.events
+            (Asked (keyed tenant.now job.now) r (replied result.reply)) self.new.hall.events (noted_in self.new.noted) }
+        ensures news { IfOk result.news (λ n. AreNews from self.new.hall.events n) }
+    {
+        let reply = self.reply(tenant, job, r);
+        Looked {
+            reply,
+            news: news_of(alloc, &self.hall, from),
+        }
     }
 
     /// Hands a node out to a worker, 1 to the number of workers, and notes the call.

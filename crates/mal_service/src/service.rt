@@ -5,11 +5,12 @@ ghost use Rattle.mal_service.specs.Posts.{HoldsOfPost};
 ghost use Rattle.mal_turn.specs.Numbers.{part};
 ghost use Rattle.mal_turn.specs.Tokens.{IsOf, view};
 ghost use Rattle.spec_hall.specs.Dressed.{keyed};
-ghost use Rattle.mal_service.specs.{Passes.{Enters, LeavesHall}, Record.{Asked, Picked, Gave}};
+ghost use Rattle.mal_service.specs.{News.{AreNews}, Passes.{Enters, LeavesHall}, Record.{Asked, Picked, Gave, events_of}};
 ghost use Rattle.mal_turn.specs.Rule.{Begins, IsWhole, child, joined, opener, splitting};
 
+use crate::news::Looked;
 use crate::noted::NotedHall;
-use mal_base::Name;
+use mal_base::{Key, Name};
 use mal_hall::{FinishAnswer, Hall, PickAnswer, Post, PostFault, ReplyFault, Size};
 use mal_suspend::Done;
 use mal_turn::{InUse, Token, Turn};
@@ -75,6 +76,28 @@ impl<S: Size> Service<S> {
         let mut held = self.turn.take(rt, pass);
         let answer = held.value.reply(tenant, job, r);
         (self.turn.put(held), answer)
+    }
+
+    /// Asks for the reply to a job's revision as `ask` does, and tells what was entered since so many events of the
+    /// record that the pass has then seen. One entry, with the question and the hall's answer. The reply is explained by
+    /// the events that are told with those before them.
+    pub fn look<R: Wait>(
+        &self,
+        rt: &R,
+        alloc: Global,
+        pass: Pass<S>,
+        key: Key,
+        r: u32,
+        from: usize,
+    ) -> (Pass<S>, Looked)
+        requires { IsOf self.now.turn pass }
+        ensures turn { IsOf self.now.turn result.0 }
+        ensures entry { Enters S.workers (view pass) (Asked key r (replied result.1.reply)) (view result.0) }
+        ensures news { IfOk result.1.news (λ n. AreNews from (events_of (view result.0).seen) n) }
+    {
+        let mut held = self.turn.take(rt, pass);
+        let looked = held.value.look(alloc, &key.tenant, &key.job, r, from);
+        (self.turn.put(held), looked)
     }
 
     /// Hands a node out to a worker, 1 to the number of workers, as `Hall::pick` does. One entry, with the worker and

@@ -10,7 +10,7 @@ use std::alloc::{AllocError, Global};
 
 /// The commands with their options.
 const USAGE: &[u8] =
-    b"usage: mal run --workers N, check, replay, gen --seed S --jobs N [--workers W], json, cluster --halls H --workers N --every K, max --slices N, core --slices N\n";
+    b"usage: mal run --workers N, check, replay, gen --seed S --jobs N [--workers W], json, cluster --halls H --workers N --every K, max --slices N, core --slices N, serve --workers N\n";
 
 /// The line for words that ask for nothing: each command with its options.
 pub fn usage_line() -> &'static [u8]
@@ -31,7 +31,8 @@ pub fn command<'a>(alloc: Global) -> Result<Command<'a>, AllocError>
         .subcommand(bare(alloc, "json"))?
         .subcommand(cluster(alloc)?)?
         .subcommand(with_number(alloc, "max", "slices")?)?
-        .subcommand(with_number(alloc, "core", "slices")?)
+        .subcommand(with_number(alloc, "core", "slices")?)?
+        .subcommand(with_number(alloc, "serve", "workers")?)
 }
 
 /// The program itself, of which a subcommand has to follow.

@@ -3,7 +3,7 @@
 ghost use Rattle.std.specs.Prelude.{◌≡◌, IfOk, IfSome, OnErr, None, Some, codes, map, option_map, string_bytes};
 ghost use Rattle.clap.specs.Words.{first_of, found_of, rows_of, subcommand_rows_of};
 ghost use Rattle.clap.specs.declared.error.kind.ErrorKind.TheVariants.{OutOfMemory};
-ghost use Rattle.mal_answer.specs.{Forms.{cluster_form, cluster_of, core_form, gen_form, generate_of, max_form, number_in, run_form}, Requests.{IsRequest, asked, asked_in}, Found.{IsMeaning}};
+ghost use Rattle.mal_answer.specs.{Forms.{cluster_form, cluster_of, core_form, gen_form, generate_of, max_form, number_in, run_form, serve_form}, Requests.{IsRequest, asked, asked_in}, Found.{IsMeaning}};
 
 use crate::words::command::command;
 use crate::words::number::number;
@@ -77,6 +77,9 @@ fn request_named(name: &str, options: &ArgMatches<'_>) -> Option<Request>
     if name == "core" {
         return core_with(options);
     }
+    if name == "serve" {
+        return serve_with(options);
+    }
     None
 }
 
@@ -86,6 +89,16 @@ fn run_with(options: &ArgMatches<'_>) -> Option<Request>
 {
     match number_in(options, "workers", 1, 64) {
         Some(workers) => Some(Request::Run { workers }),
+        None => None,
+    }
+}
+
+/// What `serve` asks for with these options.
+fn serve_with(options: &ArgMatches<'_>) -> Option<Request>
+    ensures { result ≡ serve_form.asks (rows_of (found_of options.now)) }
+{
+    match number_in(options, "workers", 1, 64) {
+        Some(workers) => Some(Request::Serve { workers }),
         None => None,
     }
 }

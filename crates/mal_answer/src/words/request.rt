@@ -39,4 +39,8 @@ pub enum Request {
     Core {
         slices: u32,
     },
+    /// Serves the posts of a feed as they come with so many workers, 1 to 64.
+    Serve {
+        workers: u32,
+    },
 }

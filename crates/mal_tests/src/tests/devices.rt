@@ -10,11 +10,12 @@ use std::alloc::Global;
 use std::sync::Wait;
 use std::thread::Threads;
 
-/// What a text is to be: just these bytes, or these in front.
+/// What a text is to be: just these bytes, these in front, or these at the end.
 #[derive(Clone, Copy)]
 enum Known<'a> {
     Is(&'a [u8]),
     Begins(&'a [u8]),
+    Ends(&'a [u8]),
 }
 
 impl Known<'_> {
@@ -22,6 +23,7 @@ impl Known<'_> {
         match self {
             Known::Is(known) => text == known,
             Known::Begins(known) => text.starts_with(known),
+            Known::Ends(known) => text.ends_with(known),
         }
     }
 }
@@ -433,4 +435,77 @@ fn changed_are_refused<R: Threads + Wait + Sync>(rt: &R, alloc: Global) -> bool 
 #[test]
 fn a_script_with_a_byte_outside_ascii_is_refused(rt: HostRuntime) {
     assert!(rt; changed_are_refused(&rt, rt.alloc()));
+}
+
+/// A feed of two jobs that are open at its end, the last of which has a revision, and the reply to that.
+const FEED: &[u8] = b"t a\nj p 1 1 4\nj q 1 1 4\np cnf 1 1\n1 0\na 0\nj p\n";
+
+const TOLD: &[u8] = b"r a q 1\ns SATISFIABLE\nv 1 0\n";
+
+/// How the history of that feed begins where two workers serve it.
+const OPENED: &[u8] = b"h mal 2 2\no a p 1 1 4\n";
+
+/// Whether a live service of two workers comes to this end with a feed in pieces of so many bytes, where these calls of
+/// the source fail.
+fn serves<R: Threads + Wait + Sync>(
+    rt: &R,
+    alloc: Global,
+    source: (&[u8], usize, &[u64]),
+    sinks: &Sinks,
+    end: &End,
+) -> bool {
+    let mut device = MemSource::new(source.0, source.1.max(1), source.2);
+    let parts = ["mal", "serve", "--workers", "2"];
+    comes_to(rt, alloc, &parts, &mut device, sinks, end) == Some(true)
+}
+
+#[test]
+fn a_feed_is_served_whatever_its_pieces(rt: HostRuntime) {
+    let end = End {
+        status: 0,
+        out: Known::Is(TOLD),
+        log: Known::Begins(OPENED),
+    };
+    for piece in [1usize, 2, 7, 4_096] {
+        assert!(rt; serves(&rt, rt.alloc(), (FEED, piece, &[]), &NONE, &end));
+    }
+    let empty = End::with(0, b"", b"h mal 2 2\n");
+    assert!(rt; serves(&rt, rt.alloc(), (b"", 1, &[]), &NONE, &empty));
+}
+
+#[test]
+fn what_was_posted_before_a_fault_is_served(rt: HostRuntime) {
+    let end = End {
+        status: 3,
+        out: Known::Is(TOLD),
+        log: Known::Ends(b"\nfault: feed line 8 BadLine\n"),
+    };
+    let feed = b"t a\nj p 1 1 4\nj q 1 1 4\np cnf 1 1\n1 0\na 0\nj p\nj r\nj s 1 1 4\n";
+    assert!(rt; serves(&rt, rt.alloc(), (feed, 5, &[]), &NONE, &end));
+}
+
+#[test]
+fn what_was_posted_before_the_source_failed_is_served(rt: HostRuntime) {
+    let end = End {
+        status: 4,
+        out: Known::Is(TOLD),
+        log: Known::Begins(OPENED),
+    };
+    assert!(rt; FEED.len() == 46);
+    assert!(rt; serves(&rt, rt.alloc(), (FEED, 1, &[45]), &NONE, &end));
+    assert!(rt; serves(&rt, rt.alloc(), (FEED, 1, &[47]), &NONE, &end));
+}
+
+#[test]
+fn a_live_service_keeps_fronts_where_a_sink_fails(rt: HostRuntime) {
+    let no_reply = End {
+        status: 5,
+        out: Known::Is(b"r a q 1\n"),
+        log: Known::Begins(OPENED),
+    };
+    let no_log = End::with(5, b"", b"h mal 2");
+    let out = sinks_of(Device::Out, Sinking::full(8));
+    let log = sinks_of(Device::Log, Sinking::failing(&[8]));
+    assert!(rt; serves(&rt, rt.alloc(), (FEED, 9, &[]), &out, &no_reply));
+    assert!(rt; serves(&rt, rt.alloc(), (FEED, 9, &[]), &log, &no_log));
 }

@@ -17,4 +17,5 @@ returns c =
     let five = added _ _ _ _ (bare_app (codes "json")) (c.in_ok-subcommand-5.ensures.shape c.bare-3.ensures.local) four c.bare-3.ensures.app in
     let six = added _ _ _ _ cluster_app (c.in_ok-subcommand-6.ensures.shape c.in_ok-cluster.ensures.local) five c.in_ok-cluster.ensures.app in
     let seven = added _ _ _ _ (app_with (codes "max") (codes "slices")) (c.in_ok-subcommand-7.ensures.shape c.in_ok-with_number-2.ensures.local) six c.in_ok-with_number-2.ensures.app in
-    IfOk-weaker c.subcommand-8.result _ _ (λ r h. added _ _ _ _ (app_with (codes "core") (codes "slices")) (h.shape c.in_ok-with_number-3.ensures.local) seven c.in_ok-with_number-3.ensures.app) c.subcommand-8.ensures
+    let eight = added _ _ _ _ (app_with (codes "core") (codes "slices")) (c.in_ok-subcommand-8.ensures.shape c.in_ok-with_number-3.ensures.local) seven c.in_ok-with_number-3.ensures.app in
+    IfOk-weaker c.subcommand-9.result _ _ (λ r h. added _ _ _ _ (app_with (codes "serve") (codes "workers")) (h.shape c.in_ok-with_number-4.ensures.local) eight c.in_ok-with_number-4.ensures.app) c.subcommand-9.ensures

@@ -7,7 +7,7 @@ use Rattle.clap.specs.declared.error.kind.ErrorKind.{ErrorKind}
 use Rattle.mal_answer.specs.CommandLine.{refusals, subcommand}
 use Rattle.mal_answer.specs.Requests.{Asks, Means, MeansNothing}
 use Rattle.mal_answer.specs.declared.words.request.Request.{Request}
-use Rattle.mal_answer.specs.declared.words.request.Request.TheVariants.{Run, Check, Replay, Generate, RunGenerated, Json, Cluster, Max, Core}
+use Rattle.mal_answer.specs.declared.words.request.Request.TheVariants.{Run, Check, Replay, Generate, RunGenerated, Json, Cluster, Max, Core, Serve}
 use Rattle.mal_answer.proofs.words.laws.word_examples.Goals as goal
 
 abbrev the : Option (Text × List Row) → Text × List Row
@@ -34,6 +34,7 @@ returns c = record {
   cluster = by _ (Cluster 2 1 1000) refl refl (refl, (omega arith, omega arith, refl), (omega arith, omega arith, refl), (omega arith, omega arith, refl));
   max = by _ (Max 4096) refl refl (refl, (omega arith, omega arith, refl));
   core = by _ (Core 1) refl refl (refl, (omega arith, omega arith, refl));
+  serve = by _ (Serve 2) refl refl (refl, (omega arith, omega arith, refl));
   gen = by _ (Generate 0 4) refl refl (refl, refl, (omega arith, omega arith, refl), (omega arith, omega arith, refl));
   gen_run = by _ (RunGenerated 1 4 2) refl refl (refl, (omega arith, omega arith, refl), (omega arith, omega arith, refl), (omega arith, omega arith, refl));
   no_words = refused _ _ _ refl;

@@ -1,0 +1,6 @@
+-- what this crate alone cites
+mod Apart
+mod Closing
+mod Rows
+mod Names
+mod Pieces

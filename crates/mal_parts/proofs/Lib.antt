@@ -1,0 +1,4 @@
+mod Headings
+mod ReadingLemmas
+mod Tellings
+mod Together

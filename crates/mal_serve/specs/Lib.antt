@@ -1,0 +1,4 @@
+pub mod Finishing
+pub mod Passing
+pub mod Said
+pub mod Serving
