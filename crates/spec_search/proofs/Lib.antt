@@ -9,8 +9,8 @@ pub mod LinesLemmas
 pub mod FewerLemmas
 -- what this crate alone cites
 mod ExampleLemmas
-mod ConsistentLemmas
-mod HintLemmas
+pub mod ConsistentLemmas
+pub mod HintLemmas
 mod EmptyLemmas
 mod DropLemmas
-mod OverLemmas
+pub mod OverLemmas

@@ -1,0 +1,3 @@
+mod RowLemmas
+mod HeapLemmas
+mod HeapedLemmas

@@ -1,0 +1,3 @@
+-- what crates above cite
+pub mod Far
+pub mod RankLemmas

@@ -1,0 +1,10 @@
+mod ExampleLemmas
+mod TrailLemmas
+mod UnitLemmas
+mod NodeLemmas
+mod MarkLemmas
+mod CaseLemmas
+mod GuidedLemmas
+mod SliceLemmas
+mod SlicedLemmas
+mod LineLemmas

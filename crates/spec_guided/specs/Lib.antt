@@ -1,0 +1,12 @@
+pub mod State
+pub mod Glue
+pub mod Resolved
+pub mod Learning
+pub mod Unit
+pub mod Reducing
+pub mod Deciding
+pub mod Step
+pub mod Slice
+pub mod Load
+pub mod Examples
+pub mod Laws
