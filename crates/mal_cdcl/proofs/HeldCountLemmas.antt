@@ -144,8 +144,8 @@ picks-profile (new ∷ more) n = picks-profile more (with_pick new n) ∙ (pick-
 
 -- room for the numbers of the clauses held before loads and imports, of theirs, and of so many more is room for those
 -- held after
-pub ready-ids : (loads : List (Posted × ℕ)) (picks : List (List NumberedClause)) (start end : Node) (ids : ℕ) → end ≡ with_picks picks (readied loads start) → ((policy start.profile).reduction ≢ Never → length start.clauses + (clauses_in loads + import_clauses picks + 1000) ≤ ids) → (policy end.profile).reduction ≢ Never → length end.clauses + 1000 ≤ ids
-ready-ids loads picks start end ids is room reduces =
+pub ready-ids : (steps : ℕ) (loads : List (Posted × ℕ)) (picks : List (List NumberedClause)) (start end : Node) (ids : ℕ) → end ≡ with_picks picks (readied loads start) → ((policy start.profile).reduction ≢ Never → length start.clauses + (clauses_in loads + import_clauses picks + steps) ≤ ids) → (policy end.profile).reduction ≢ Never → length end.clauses + steps ≤ ids
+ready-ids steps loads picks start end ids is room reduces =
     let profile : end.profile ≡ start.profile = ap (λ (n : Node). n.profile) is ∙ (picks-profile picks (readied loads start) ∙ readied-profile loads start) in
     let held : length end.clauses ≡ length (with_picks picks (readied loads start)).clauses = ap (λ (n : Node). length n.clauses) is in
     omega (arith, held, picks-held picks (readied loads start), readied-held loads start, room (λ never. reduces (ap (λ (p : Profile). (policy p).reduction) profile ∙ never)))

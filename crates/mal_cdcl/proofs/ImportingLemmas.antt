@@ -17,7 +17,7 @@ use Rattle.spec_node.proofs.ImportLemmas.{All-passed, All-with_clauses, own-pass
 use Rattle.mal_cdcl.specs.Within.{NodeWithRoom, NodeRoom}
 use Rattle.mal_cdcl.specs.ImportSizes.{lits_in, import_clauses}
 use Rattle.mal_cdcl.specs.Ready.{readied, clauses_in, HasRoomFor}
-use Rattle.mal_cdcl.specs.Sliced.{HasSliceRoom, Keeps}
+use Rattle.mal_cdcl.specs.Sliced.{HasRunRoom, Keeps}
 use Rattle.mal_cdcl.specs.Importing.{all_imported, MayImportAll, picked, with_pick, with_picks, AreNewTo, AreAllNew}
 use Rattle.mal_cdcl.proofs.HeldCountLemmas.{pick-clauses, pick-leaves, ready-ids}
 use Rattle.mal_cdcl.proofs.NeedLemmas.{IsReadying}
@@ -62,15 +62,15 @@ picked-done (exported ∷ more) n = ap (λ (cs : List NumberedClause). with_pick
 
 -- what is left to import of some picks: this node is reached with them, they are new, and there is room for them, in a
 -- scratch of this bound too
-pub record IsImporting (left : List (List NumberedClause)) (target : Node) (bound : ℕ) (now : NodeWithRoom) : Type 0 where
+pub record IsImporting (steps : ℕ) (left : List (List NumberedClause)) (target : Node) (bound : ℕ) (now : NodeWithRoom) : Type 0 where
   pub done : with_picks left now.state ≡ target
   pub new : AreAllNew left now.state
-  pub room : HasRoomFor [] left now
+  pub room : HasRoomFor steps [] left now
   pub fitted : now.state.variables < bound
 
 -- after the loads the picks are left
-pub importing-begins : (loads : List (Posted × ℕ)) (imports picks : List (List NumberedClause)) (start : Node) (bound : ℕ) (now : NodeWithRoom) → picks ≡ picked imports (readied loads start).clauses → MayImportAll imports (readied loads start) → IsReadying [] loads picks start bound now → IsImporting picks (all_imported imports (readied loads start)) bound now
-importing-begins loads imports picks start bound now is may h =
+pub importing-begins : (steps : ℕ) (loads : List (Posted × ℕ)) (imports picks : List (List NumberedClause)) (start : Node) (bound : ℕ) (now : NodeWithRoom) → picks ≡ picked imports (readied loads start).clauses → MayImportAll imports (readied loads start) → IsReadying steps [] loads picks start bound now → IsImporting steps picks (all_imported imports (readied loads start)) bound now
+importing-begins steps loads imports picks start bound now is may h =
     let same : picks ≡ picked imports now.state.clauses = is ∙ ap (λ (n : Node). picked imports n.clauses) (sym h.done) in
     record {
       done = ap (λ (ps : List (List NumberedClause)). with_picks ps now.state) same ∙ (picked-done imports now.state ∙ ap (λ (n : Node). all_imported imports n) h.done);
@@ -79,8 +79,8 @@ importing-begins loads imports picks start bound now is may h =
       fitted = h.fitted;
     }
 
-importing-first : (new : List NumberedClause) (more : List (List NumberedClause)) (target : Node) (bound : ℕ) (now next : NodeWithRoom) → next.state ≡ with_pick new now.state → Keeps (length new) (lits_in new) now next → IsImporting (new ∷ more) target bound now → IsImporting more target bound next
-importing-first new more target bound now next is k h =
+importing-first : (steps : ℕ) (new : List NumberedClause) (more : List (List NumberedClause)) (target : Node) (bound : ℕ) (now next : NodeWithRoom) → next.state ≡ with_pick new now.state → Keeps (length new) (lits_in new) now next → IsImporting steps (new ∷ more) target bound now → IsImporting steps more target bound next
+importing-first steps new more target bound now next is k h =
     let v : next.state.variables ≡ now.state.variables = ap (λ (n : Node). n.variables) is ∙ (pick-leaves new now.state).variables in
     let trail : next.spare.trail ≡ now.spare.trail = ap (λ (s : NodeRoom). s.trail) k.spare in
     let order : next.spare.order ≡ now.spare.order = ap (λ (s : NodeRoom). s.order) k.spare in
@@ -115,20 +115,20 @@ drop-at (y ∷ ys) (suc i) x d l e =
     let more : suc i + 1 ≡ suc (i + 1) = omega arith in
     rw more (drop-at ys i x d (omega arith) e)
 
-pub importing-here : (picks : List (List NumberedClause)) (i : ℕ) (x d : List NumberedClause) (target : Node) (bound : ℕ) (now : NodeWithRoom) → i < length picks → x ≡ get_or picks i d → IsImporting (drop i picks) target bound now → IsImporting (x ∷ drop (i + 1) picks) target bound now
-importing-here picks i x d target bound now l e h = rw (drop-at picks i x d l e) at h
+pub importing-here : (steps : ℕ) (picks : List (List NumberedClause)) (i : ℕ) (x d : List NumberedClause) (target : Node) (bound : ℕ) (now : NodeWithRoom) → i < length picks → x ≡ get_or picks i d → IsImporting steps (drop i picks) target bound now → IsImporting steps (x ∷ drop (i + 1) picks) target bound now
+importing-here steps picks i x d target bound now l e h = rw (drop-at picks i x d l e) at h
 
 -- there is room for the first of the picks that are left
-pub importing-room : (x : List NumberedClause) (more : List (List NumberedClause)) (now : NodeWithRoom) → HasRoomFor [] (x ∷ more) now → HasRoom now.state.variables (length x) (lits_in x) now.spare.engine
-importing-room x more now h = record { variables = h.variables; clauses = omega (arith, h.clauses); literals = omega (arith, h.literals) }
+pub importing-room : (steps : ℕ) (x : List NumberedClause) (more : List (List NumberedClause)) (now : NodeWithRoom) → HasRoomFor steps [] (x ∷ more) now → HasRoom now.state.variables (length x) (lits_in x) now.spare.engine
+importing-room steps x more now h = record { variables = h.variables; clauses = omega (arith, h.clauses); literals = omega (arith, h.literals) }
 
-pub importing-next : (picks : List (List NumberedClause)) (i : ℕ) (x d : List NumberedClause) (target : Node) (bound : ℕ) (now next : NodeWithRoom) → i < length picks → x ≡ get_or picks i d → next.state ≡ with_pick x now.state → Keeps (length x) (lits_in x) now next → IsImporting (drop i picks) target bound now → IsImporting (drop (i + 1) picks) target bound next
-importing-next picks i x d target bound now next l e is k h = importing-first x (drop (i + 1) picks) target bound now next is k (importing-here picks i x d target bound now l e h)
+pub importing-next : (steps : ℕ) (picks : List (List NumberedClause)) (i : ℕ) (x d : List NumberedClause) (target : Node) (bound : ℕ) (now next : NodeWithRoom) → i < length picks → x ≡ get_or picks i d → next.state ≡ with_pick x now.state → Keeps (length x) (lits_in x) now next → IsImporting steps (drop i picks) target bound now → IsImporting steps (drop (i + 1) picks) target bound next
+importing-next steps picks i x d target bound now next l e is k h = importing-first steps x (drop (i + 1) picks) target bound now next is k (importing-here steps picks i x d target bound now l e h)
 
--- where nothing is left the node is reached, with room for a slice
-pub record IsImported (target : Node) (bound : ℕ) (now : NodeWithRoom) : Type 0 where
+-- where nothing is left the node is reached, with room for these steps
+pub record IsImported (steps : ℕ) (target : Node) (bound : ℕ) (now : NodeWithRoom) : Type 0 where
   pub done : now.state ≡ target
-  pub room : HasSliceRoom now
+  pub room : HasRunRoom steps now
   pub fitted : now.state.variables < bound
 
 drop-all : (picks : List (List NumberedClause)) (i : ℕ) → length picks ≤ i → drop i picks ≡ []
@@ -137,10 +137,10 @@ drop-all [] (suc i) l = refl
 drop-all (x ∷ xs) zero l = absurd (omega arith)
 drop-all (x ∷ xs) (suc i) l = drop-all xs i (omega arith)
 
-pub importing-ends : (picks : List (List NumberedClause)) (i : ℕ) (target : Node) (bound : ℕ) (now : NodeWithRoom) → length picks ≤ i → IsImporting (drop i picks) target bound now → IsImported target bound now
-importing-ends picks i target bound now l h =
+pub importing-ends : (steps : ℕ) (picks : List (List NumberedClause)) (i : ℕ) (target : Node) (bound : ℕ) (now : NodeWithRoom) → length picks ≤ i → IsImporting steps (drop i picks) target bound now → IsImported steps target bound now
+importing-ends steps picks i target bound now l h =
     let none : drop i picks ≡ [] = drop-all picks i l in
-    let end : IsImporting [] target bound now = rw none at h in
+    let end : IsImporting steps [] target bound now = rw none at h in
     record {
       done = end.done;
       room = record {
@@ -159,7 +159,7 @@ importing-ends picks i target bound now l h =
     }
 
 -- the scratch has room for the numbers of all clauses that are held then
-pub importing-ids : (loads : List (Posted × ℕ)) (imports picks : List (List NumberedClause)) (start end : Node) (ids : ℕ) → picks ≡ picked imports (readied loads start).clauses → end ≡ all_imported imports (readied loads start) → ((policy start.profile).reduction ≢ Never → length start.clauses + (clauses_in loads + import_clauses picks + 1000) ≤ ids) → (policy end.profile).reduction ≢ Never → length end.clauses + 1000 ≤ ids
-importing-ids loads imports picks start end ids is done room =
+pub importing-ids : (steps : ℕ) (loads : List (Posted × ℕ)) (imports picks : List (List NumberedClause)) (start end : Node) (ids : ℕ) → picks ≡ picked imports (readied loads start).clauses → end ≡ all_imported imports (readied loads start) → ((policy start.profile).reduction ≢ Never → length start.clauses + (clauses_in loads + import_clauses picks + steps) ≤ ids) → (policy end.profile).reduction ≢ Never → length end.clauses + steps ≤ ids
+importing-ids steps loads imports picks start end ids is done room =
     let same : end ≡ with_picks picks (readied loads start) = done ∙ (sym (picked-done imports (readied loads start)) ∙ ap (λ (ps : List (List NumberedClause)). with_picks ps (readied loads start)) (sym is)) in
-    ready-ids loads picks start end ids same room
+    ready-ids steps loads picks start end ids same room

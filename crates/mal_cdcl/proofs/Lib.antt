@@ -1,5 +1,9 @@
 -- what crates above cite
 pub mod HeldCountLemmas
+pub mod StepLemmas
+pub mod LineLemmas
+pub mod SourceLemmas
+pub mod DeriveLemmas
 -- what this crate alone cites
 mod OriginalLemmas
 mod FillLemmas
@@ -7,12 +11,8 @@ mod NeedLemmas
 mod PickLemmas
 mod TellingLemmas
 mod ImportingLemmas
-mod StepLemmas
 mod ImageLemmas
-mod DeriveLemmas
 mod BumpLemmas
 mod SliceLemmas
-mod LineLemmas
-mod SourceLemmas
 mod PastLemmas
 mod RestartLemmas

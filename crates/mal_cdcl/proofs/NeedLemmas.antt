@@ -28,8 +28,8 @@ most-more [] a b h = h
 most-more (l ∷ ls) a b h = most-more ls (max a (length l.0.assumptions)) (max b (length l.0.assumptions)) (omega arith)
 
 -- room for loads is room for the first
-pub room-head : (l : Posted × ℕ) (ls : List (Posted × ℕ)) (exported : List (List NumberedClause)) (n : NodeWithRoom) → HasRoomFor (l ∷ ls) exported n → HasRoomFor (l ∷ []) [] n
-room-head l ls exported n h =
+pub room-head : (steps : ℕ) (l : Posted × ℕ) (ls : List (Posted × ℕ)) (exported : List (List NumberedClause)) (n : NodeWithRoom) → HasRoomFor steps (l ∷ ls) exported n → HasRoomFor 0 (l ∷ []) [] n
+room-head steps l ls exported n h =
     let g = greatest-least ls (max n.state.variables l.0.variables) in
     record {
       trail = omega (arith, g, h.trail);
@@ -40,21 +40,21 @@ room-head l ls exported n h =
       clauses = omega (arith, h.clauses);
       literals = omega (arith, g, h.literals);
       none = h.none;
-      lines = h.lines;
+      lines = omega arith;
       line_literals = omega (arith, g, h.line_literals);
       hints = omega (arith, g, h.hints);
     }
 
 -- what is left to do of some loads: the node is ready after it, its numbers are new, and there is room for it, in a
 -- scratch of this bound too
-pub record IsReadying (left all : List (Posted × ℕ)) (exported : List (List NumberedClause)) (start : Node) (bound : ℕ) (now : NodeWithRoom) : Type 0 where
+pub record IsReadying (steps : ℕ) (left all : List (Posted × ℕ)) (exported : List (List NumberedClause)) (start : Node) (bound : ℕ) (now : NodeWithRoom) : Type 0 where
   pub done : readied left now.state ≡ readied all start
   pub new : AreNew left now.state
-  pub room : HasRoomFor left exported now
+  pub room : HasRoomFor steps left exported now
   pub fitted : greatest left now.state.variables < bound
 
-pub readying-next : (l : Posted × ℕ) (ls all : List (Posted × ℕ)) (exported : List (List NumberedClause)) (start : Node) (bound : ℕ) (now next : NodeWithRoom) → IsReadying (l ∷ ls) all exported start bound now → next.state ≡ loaded l.0 l.1 now.state → IsSpared l.0 now next → IsReadying ls all exported start bound next
-readying-next l ls all exported start bound now next h is s =
+pub readying-next : (steps : ℕ) (l : Posted × ℕ) (ls all : List (Posted × ℕ)) (exported : List (List NumberedClause)) (start : Node) (bound : ℕ) (now next : NodeWithRoom) → IsReadying steps (l ∷ ls) all exported start bound now → next.state ≡ loaded l.0 l.1 now.state → IsSpared l.0 now next → IsReadying steps ls all exported start bound next
+readying-next steps l ls all exported start bound now next h is s =
     let v : next.state.variables ≡ max now.state.variables l.0.variables = ap (λ (n : Node). n.variables) is in
     record {
       done = rw is h.done;

@@ -5,3 +5,5 @@ pub mod Rising
 pub mod Sliced
 pub mod Sourced
 pub mod Importing
+pub mod Uncounted
+pub mod Uniting

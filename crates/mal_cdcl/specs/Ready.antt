@@ -44,17 +44,18 @@ abbrev pub most_assumptions : List (Posted × ℕ) → ℕ → ℕ
 most_assumptions [] most = most
 most_assumptions (l ∷ ls) most = most_assumptions ls (max most (length l.0.assumptions))
 
--- a node has room for these loads, for the clauses of these lists and a slice after them, and has no lines
-pub record HasRoomFor (loads : List (Posted × ℕ)) (exported : List (List NumberedClause)) (n : NodeWithRoom) : Type 0 where
+-- a node has room for these loads, for the clauses of these lists and so many steps of a slice after them, and has no
+-- lines
+pub record HasRoomFor (steps : ℕ) (loads : List (Posted × ℕ)) (exported : List (List NumberedClause)) (n : NodeWithRoom) : Type 0 where
   pub trail : greatest loads n.state.variables ≤ n.spare.trail
   pub order : greatest loads n.state.variables ≤ n.spare.order + n.state.variables
   pub phases : greatest loads n.state.variables ≤ n.spare.phases + n.state.variables
   pub assumptions : most_assumptions loads 0 ≤ n.spare.assumptions
   pub variables : greatest loads n.state.variables ≤ n.spare.engine.variables
-  pub clauses : clauses_in loads + import_clauses exported + 1000 ≤ n.spare.engine.clauses
+  pub clauses : clauses_in loads + import_clauses exported + steps ≤ n.spare.engine.clauses
   pub literals : literals_in loads + import_literals exported + most_numbers (greatest loads n.state.variables) ≤ n.spare.engine.literals
   pub none : n.lines ≡ []
-  pub lines : 1000 ≤ n.spare.lines
+  pub lines : steps ≤ n.spare.lines
   pub line_literals : most_numbers (greatest loads n.state.variables) ≤ n.spare.line_literals
   pub hints : most_numbers (greatest loads n.state.variables) ≤ n.spare.hints
 

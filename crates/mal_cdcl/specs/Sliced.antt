@@ -24,10 +24,14 @@ pub record HasStepRoom (steps used : ℕ) (n : NodeWithRoom) : Type 0 where
   pub line_literals : most_numbers n.state.variables ≤ n.spare.line_literals + used
   pub hints : most_numbers n.state.variables ≤ n.spare.hints + used
 
--- a node has room for a slice: it has no lines, and has room for those of 1,000 steps
-pub record HasSliceRoom (n : NodeWithRoom) : Type 0 where
+-- a node has room for a slice of so many steps: it has no lines, and has room for those of these steps
+pub record HasRunRoom (steps : ℕ) (n : NodeWithRoom) : Type 0 where
   pub none : n.lines ≡ []
-  pub room : HasStepRoom 1000 0 n
+  pub room : HasStepRoom steps 0 n
+
+-- and for a slice
+abbrev pub HasSliceRoom : NodeWithRoom → Type 0
+HasSliceRoom n = HasRunRoom 1000 n
 
 -- the counts of a node are low enough for a slice
 pub record HasLowCounts (n : Node) : Type 0 where

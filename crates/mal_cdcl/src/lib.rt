@@ -12,3 +12,4 @@ mod restart;
 mod source;
 
 pub use node::Node;
+pub use source::Source;

@@ -56,17 +56,18 @@ fn needs_of(loads: &[(&Revision, u32)], variables: u32) -> Result<Needs, AllocEr
     Ok(needs)
 }
 
-/// What these loads, the clauses taken and then a slice need at a node of so many variables.
+/// What these loads, the clauses taken and then so many steps of a slice need at a node of so many variables.
 pub fn needs_in_all(
     loads: &[(&Revision, u32)],
     picks: &[NewClauses],
+    steps: u32,
     variables: u32,
 ) -> Result<Needs, AllocError>
     requires { variables ≤ limits.variables }
     ensures variables { IfOk result (λ n. n.variables ≡ greatest (posted loads.now) variables) }
     ensures least { IfOk result (λ n. variables ≤ n.variables) }
     ensures bound { IfOk result (λ n. n.variables ≤ limits.variables) }
-    ensures clauses { IfOk result (λ n. n.clauses ≡ clauses_in (posted loads.now) + import_clauses picks.now + 1000) }
+    ensures clauses { IfOk result (λ n. n.clauses ≡ clauses_in (posted loads.now) + import_clauses picks.now + steps) }
     ensures literals { IfOk result
         (λ n. n.literals ≡ literals_in (posted loads.now) + import_literals picks.now + most_numbers n.variables) }
     ensures assumptions { IfOk result (λ n. n.assumptions ≡ most_assumptions (posted loads.now) 0) }
@@ -77,7 +78,7 @@ pub fn needs_in_all(
         needs.clauses = added(needs.clauses, pick.entries().len())?;
         needs.literals = added(needs.literals, literals)?;
     }
-    needs.clauses = added(needs.clauses, SLICE_STEPS as usize)?;
+    needs.clauses = added(needs.clauses, steps as usize)?;
     needs.literals = added(needs.literals, most_numbers(needs.variables))?;
     Ok(needs)
 }

@@ -4,12 +4,14 @@ ghost use Rattle.std.specs.Prelude.{◌≡◌, ◌≢◌, true, ◌+◌, ◌-◌
 ghost use Rattle.mal_base.specs.{Limits.{limits}, Profiles.{policy}, Trails.{value_on}};
 ghost use Rattle.mal_base.specs.declared.profile.Reduction.TheVariants.{Never};
 ghost use Rattle.spec_node.specs.{State.{fresh, fresh_with}, Value.{next_assumption, first_free, level_of}, Batch.{propagated}, Cut.{cut}, Load.{loaded}, Laws.{AreNewNumbers}, Model.{model_of}, Sound.{IsSound}};
-ghost use Rattle.mal_cdcl.specs.{ImportSizes.{lits_in, import_clauses}, Importing.{AreNewTo, lent, MayImportAll, all_imported, with_pick}, Ready.{posted, readied, greatest, clauses_in, AreNew, HasRoomFor, IsSpared}, Sliced.{HasSliceRoom, HasStepRoom, HasIdRoom, HasLowCounts, MayCount, Keeps, IsShown, IsEnded, IsStepped, IsSearched, IsFailing, HasClauseRoom, HasLineRoom, IsLineLess}, Sourced.{IsSource, analysis_from, line_from}};
+ghost use Rattle.mal_cdcl.specs.{ImportSizes.{lits_in, import_clauses}, Importing.{AreNewTo, lent, MayImportAll, all_imported, with_pick}, Ready.{posted, readied, greatest, clauses_in, AreNew, HasRoomFor, IsSpared}, Sliced.{HasRunRoom, HasSliceRoom, HasStepRoom, HasIdRoom, HasLowCounts, MayCount, Keeps, IsShown, IsEnded, IsStepped, IsSearched, IsFailing, HasClauseRoom, HasLineRoom, IsLineLess}, Sourced.{IsSource, analysis_from, line_from}, Uncounted.{uncounted}};
 ghost use Rattle.mal_trail.specs.Rooms.{HasRoom};
 ghost use Rattle.spec_learn.specs.{Learning.{analysis, derived_id, learned}, Refuting.{refuted}};
-ghost use Rattle.spec_search.specs.{Step.{step, restarting, branching, case_of, after_case}, Dropping.{is_dropping_due, dropped, given_up}, Step.Case.{Decides, Restarts}, Slice.{slice, numbers_of, most_numbers}};
+ghost use Rattle.spec_search.specs.{Step.{step, restarting, branching, case_of, after_case}, Dropping.{is_dropping_due, dropped}, Step.Case.{Decides, Restarts}, Slice.{slice, numbers_of, most_numbers}};
 ghost use Rattle.mal_learn.specs.Shown.{HasLeft};
 ghost use Rattle.mal_freeze.specs.Imaged.{IsImage};
+
+mod pieces;
 
 use crate::import_filter::{self, NewClauses};
 use crate::needs::{self, Needs, SLICE_STEPS, most_numbers};
@@ -31,9 +33,6 @@ const MOST_COUNTED: u32 = 1 << 31;
 
 /// What the number of derived clauses stays below before a slice.
 const MOST_DERIVED: u64 = 1 << 56;
-
-/// The least number of a derived clause.
-const FIRST_DERIVED: u64 = 1 << 32;
 
 /// A solver node over an engine of unit propagation: what it holds, how far its search has come, and what its last
 /// slice derived. The first assumptions that were found true are passed until a cut. Contracts see the record of its
@@ -178,15 +177,6 @@ impl<E: Listed> Node<E> {
             && self.serial < MOST_DERIVED
     }
 
-    /// Gives up the clause of one number, where it is derived and no entry's reason. Takes no memory.
-    pub fn give_up(&mut self, id: ClauseId)
-        ensures { self.new.state ≡ given_up id self.old.state }
-    {
-        if id.number() >= FIRST_DERIVED && !mal_learn::is_reason(&self.trail, id, &[]) {
-            self.engine.forget(&mut [id]);
-        }
-    }
-
     /// The verdict, if the search has ended.
     pub fn verdict(&self) -> Option<Verdict>
         ensures { result ≡ self.now.state.verdict }
@@ -254,26 +244,27 @@ impl<E: Listed> Node<E> {
         })
     }
 
-    /// Makes room for these loads, the clauses that are taken and a slice after them, in a scratch too, and takes the
-    /// lines away, in exchange for the scratch's spare lines.
+    /// Makes room for these loads, the clauses that are taken and so many steps of a slice after them, in a scratch too,
+    /// and takes the lines away, in exchange for the scratch's spare lines.
     fn make_room(
         &mut self,
         loads: &[(&Revision, u32)],
         picks: &[NewClauses],
+        steps: u32,
         scratch: &mut Scratch,
     ) -> Result<(), AllocError>
-        ensures room { OnOk result (HasRoomFor (posted loads.now) picks.now self.new) }
+        ensures room { OnOk result (HasRoomFor steps (posted loads.now) picks.now self.new) }
         ensures fitted { OnOk result (greatest (posted loads.now) self.old.state.variables < scratch.new.room) }
         ensures ids { OnOk result
             ((policy self.old.state.profile).reduction ≢ Never
-            → length self.old.state.clauses + (clauses_in (posted loads.now) + import_clauses picks.now + 1000)
+            → length self.old.state.clauses + (clauses_in (posted loads.now) + import_clauses picks.now + steps)
             ≤ scratch.new.ids) }
         ensures more { scratch.old.room ≤ scratch.new.room }
         ensures more_ids { scratch.old.ids ≤ scratch.new.ids }
         ensures state { self.new.state ≡ self.old.state }
         ensures kept { OnErr result (self.new.lines ≡ self.old.lines) }
     {
-        let needs = needs::needs_in_all(loads, picks, self.variables)?;
+        let needs = needs::needs_in_all(loads, picks, steps, self.variables)?;
         self.fit(needs, scratch)?;
         needs::reserve(
             &mut self.trail,
@@ -285,7 +276,7 @@ impl<E: Listed> Node<E> {
             needs.variables - self.variables,
         )?;
         let numbers = most_numbers(needs.variables);
-        scratch.swap_spare(&mut self.lines, SLICE_STEPS as usize, numbers, numbers)
+        scratch.swap_spare(&mut self.lines, steps as usize, numbers, numbers)
     }
 
     /// Makes room in a scratch for these variables, and where the profile reduces for the numbers of the clauses
@@ -312,7 +303,7 @@ impl<E: Listed> Node<E> {
     /// Loads a revision, whose first clause has this number, where there is room for it. Takes no memory.
     fn load_reserved(&mut self, revision: &Revision, first: u32)
         requires new { AreNewNumbers revision.now first self.old.state }
-        requires room { HasRoomFor ((revision.now, first) ∷ []) [] self.old }
+        requires room { HasRoomFor 0 ((revision.now, first) ∷ []) [] self.old }
         ensures state { self.new.state ≡ loaded revision.now first self.old.state }
         ensures spare { IsSpared revision.now self.old self.new }
     {
@@ -350,7 +341,7 @@ impl<E: Listed> Node<E> {
     }
 
     /// Goes back to a level. The sign of each literal that leaves the trail becomes its variable's phase.
-    fn cut(&mut self, level: u32)
+    pub fn cut(&mut self, level: u32)
         ensures state { self.new.state ≡ cut level self.old.state }
         ensures spare { self.new.spare ≡ self.old.spare }
         ensures lines { self.new.lines ≡ self.old.lines }
@@ -449,7 +440,7 @@ impl<E: Listed> Node<E> {
     }
 
     /// Handles the next batch.
-    fn propagate(&mut self)
+    pub fn propagate(&mut self)
         requires { self.old.state.processed ≤ length self.old.state.trail }
         ensures state { self.new.state ≡ propagated self.old.state }
         ensures keeps { Keeps 0 0 self.old self.new }
@@ -499,7 +490,7 @@ impl<E: Listed> Node<E> {
     }
 
     /// The first assumption that is not true. Those in front of it are passed.
-    fn next_assumption(&mut self) -> Option<Lit>
+    pub fn next_assumption(&mut self) -> Option<Lit>
         ensures value { result ≡ next_assumption self.old.state.trail self.old.state.assumptions }
         ensures same { self.new ≡ self.old }
     {
@@ -570,7 +561,7 @@ impl<E: Listed> Node<E> {
     }
 
     /// Analyses a conflict or a failed assumption, and tells how many literals and hints come of it.
-    fn analyse(&self, source: &Source, scratch: &mut Scratch) -> usize
+    pub fn analyse(&self, source: &Source, scratch: &mut Scratch) -> usize
         requires sound { IsSound self.now.state }
         requires source { IsSource source.now self.now.state }
         requires fitted { self.now.state.variables < scratch.old.room }
@@ -645,8 +636,8 @@ impl<E: Listed> Node<E> {
         self.verdict = Some(Verdict::Unsatisfiable { goal: number });
     }
 
-    /// Learns the clause that was derived from a conflict above level 0: goes back to the level to jump to, holds the
-    /// clause, makes its remaining literal true, and moves its variables to the front.
+    /// Learns the clause that was derived from a conflict above level 0, moves its variables to the front, and counts the
+    /// conflict.
     fn learn(&mut self, id: ClauseId, number: ClauseId, scratch: &Scratch)
         requires sound { IsSound self.old.state }
         requires conflict { self.old.state.conflict ≡ Some id }
@@ -658,15 +649,31 @@ impl<E: Listed> Node<E> {
         ensures state { self.new.state ≡ learned id self.old.state }
         ensures keeps { Keeps 1 (length (analysis id self.old.state).lits) self.old self.new }
     {
-        self.cut(scratch.level());
-        self.engine.learn(number, scratch.clause(), &self.trail);
-        learning::force(&mut self.trail, number, scratch.clause());
+        self.teach(id, number, scratch);
         learning::bump_all(&mut self.order, scratch.clause());
-        self.serial += 1;
         self.conflicts_since_restart += 1;
         let reduction = self.profile.policy().reduction;
         let count = reduction.counted(self.conflicts_since_dropping);
         self.conflicts_since_dropping = count;
+    }
+
+    /// Goes back to the level to jump to, holds the clause that was derived from a conflict above level 0, and makes its
+    /// remaining literal true.
+    fn teach(&mut self, id: ClauseId, number: ClauseId, scratch: &Scratch)
+        requires sound { IsSound self.old.state }
+        requires conflict { self.old.state.conflict ≡ Some id }
+        requires level { 0 < level_of self.old.state.trail }
+        requires shown { IsShown (analysis id self.old.state) scratch.now }
+        requires number { number ≡ derived_id self.old.state }
+        requires counts { MayCount self.old.state }
+        requires room { HasClauseRoom (analysis id self.old.state).lits self.old }
+        ensures state { self.new.state ≡ uncounted self.old.state (learned id self.old.state) }
+        ensures keeps { Keeps 1 (length (analysis id self.old.state).lits) self.old self.new }
+    {
+        self.cut(scratch.level());
+        self.engine.learn(number, scratch.clause(), &self.trail);
+        learning::force(&mut self.trail, number, scratch.clause());
+        self.serial += 1;
         self.conflict = None;
     }
 }
@@ -694,9 +701,32 @@ impl<E: Listed> Node<E> {
         ensures more { scratch.old.room ≤ scratch.new.room }
         ensures more_ids { scratch.old.ids ≤ scratch.new.ids }
     {
+        self.ready_for(SLICE_STEPS, loads, imports, scratch)
+    }
+
+    /// The same, for a slice of so many steps.
+    pub fn ready_for(
+        &mut self,
+        steps: u32,
+        loads: &[(&Revision, u32)],
+        imports: &[&Buffer],
+        scratch: &mut Scratch,
+    ) -> Result<(), AllocError>
+        requires new { AreNew (posted loads.now) self.old.state }
+        requires exported { MayImportAll (lent imports.now) (readied (posted loads.now) self.old.state) }
+        ensures loaded { OnOk result
+            (self.new.state ≡ all_imported (lent imports.now) (readied (posted loads.now) self.old.state)) }
+        ensures unchanged { OnErr result (self.new.state ≡ self.old.state) }
+        ensures kept { OnErr result (self.new.lines ≡ self.old.lines) }
+        ensures stocked { OnOk result (HasRunRoom steps self.new) }
+        ensures fitted { OnOk result (self.new.state.variables < scratch.new.room) }
+        ensures ids { OnOk result (HasIdRoom steps self.new.state scratch.new) }
+        ensures more { scratch.old.room ≤ scratch.new.room }
+        ensures more_ids { scratch.old.ids ≤ scratch.new.ids }
+    {
         let alloc = *self.phases.allocator();
         let picks = import_filter::new_clauses_of(alloc, &self.engine, loads, imports)?;
-        self.make_room(loads, picks.as_slice(), scratch)?;
+        self.make_room(loads, picks.as_slice(), steps, scratch)?;
         for load in loads {
             let (revision, first) = load;
             self.load_reserved(revision, *first);

@@ -1,9 +1,10 @@
+-- what crates above cite
+pub mod OrderedLemmas
 -- what this crate alone cites
 mod FlagLemmas
 mod WalkLemmas
 mod CountLemmas
 mod ShowsLemmas
-mod OrderedLemmas
 mod SortLemmas
 mod AnalysedLemmas
 mod TraceLemmas
@@ -12,3 +13,4 @@ mod ReasonLemmas
 mod ChoiceLemmas
 mod ProfileLemmas
 mod PackLemmas
+mod WayLemmas

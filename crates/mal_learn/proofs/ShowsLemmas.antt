@@ -176,7 +176,7 @@ uncounted-shows n level id e past w s a seen h = passed-with n level id (uncount
     one true q = omega arith
     one false q = omega arith
 
-visited-shows : (n level id : ℕ) (clauses : List NumberedClause) (e : TrailEntry) (past : List TrailEntry) (w : Walk) (s : State) → AreBelow n clauses → IsApart n (e ∷ past) → length past < 2 ^ 64 → Shows n level id (e ∷ past) w s → Shows n level id past (after_entry (Learned level) clauses e past w) (visited clauses level e s)
+pub visited-shows : (n level id : ℕ) (clauses : List NumberedClause) (e : TrailEntry) (past : List TrailEntry) (w : Walk) (s : State) → AreBelow n clauses → IsApart n (e ∷ past) → length past < 2 ^ 64 → Shows n level id (e ∷ past) w s → Shows n level id past (after_entry (Learned level) clauses e past w) (visited clauses level e s)
 visited-shows n level id clauses e past w s below a long h =
     let same : has_var w.seen (var_of e.lit) ≡ get_or s.seen (var_of e.lit) false = sym (h.is_seen.seen (var_of e.lit) a.2) in
     subst (λ (x : Bool). Shows n level id past (after_entry (Learned level) clauses e past w) (cond x (by_reason clauses level e (uncounted level e (passed e s)) e.reason) (passed e s))) same (by_seen (has_var w.seen (var_of e.lit)) refl)

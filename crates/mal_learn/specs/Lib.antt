@@ -6,3 +6,4 @@ pub mod Shortening
 pub mod Choosing
 pub mod Lending
 pub mod Packed
+pub mod Ways

@@ -25,7 +25,7 @@ impl Model for Flags {
 }
 
 impl Flags {
-    /// No flags.
+    /// No flags. Takes no memory.
     pub fn new(alloc: Global) -> Flags
         ensures { result ≡ [] }
     {
@@ -35,7 +35,8 @@ impl Flags {
         }
     }
 
-    /// Makes as many flags, if there are fewer.
+    /// Makes so many flags, if there are fewer. An error means that memory ran out, and that there are no fewer flags
+    /// than before.
     pub fn fit(&mut self, count: usize) -> Result<(), AllocError>
         ensures len { OnOk result (count ≤ length self.new) }
         ensures more { length self.old ≤ length self.new }
@@ -47,7 +48,7 @@ impl Flags {
         Ok(())
     }
 
-    /// Clears all flags, as many as there are.
+    /// Clears all flags, as many as there are. Takes no memory, and a constant time but once in 2^64 calls.
     pub fn clear(&mut self)
         ensures { self.new ≡ replicate (length self.old) false }
     {
@@ -59,7 +60,7 @@ impl Flags {
         }
     }
 
-    /// Sets a flag.
+    /// Sets the flag of a number, which must be below the number of flags.
     pub fn insert(&mut self, place: usize)
         requires { place < length self.old }
         ensures { self.new ≡ slice_set self.old place true }
@@ -67,7 +68,7 @@ impl Flags {
         self.stamps[place] = self.stamp;
     }
 
-    /// Clears a flag.
+    /// Clears the flag of a number, which must be below the number of flags.
     pub fn remove(&mut self, place: usize)
         requires { place < length self.old }
         ensures { self.new ≡ slice_set self.old place false }
@@ -75,7 +76,7 @@ impl Flags {
         self.stamps[place] = 0;
     }
 
-    /// Whether a flag is set.
+    /// Whether the flag of a number, which must be below the number of flags, is set.
     pub fn has(&self, place: usize) -> bool
         requires { place < length self.now }
         ensures { result ≡ slice_index_or self.now place false }

@@ -242,7 +242,7 @@ fn count_to<T: TrailView>(trail: &T, literal: Lit) -> usize
 }
 
 /// The level that a trail has reached.
-fn current_level<T: TrailView>(trail: &T) -> u32
+pub fn current_level<T: TrailView>(trail: &T) -> u32
     ensures { result ≡ top (reverse (T.entries trail.now)) }
 {
     let count = trail.len();

@@ -1,7 +1,7 @@
 //! An analysis at work.
 
-ghost use Rattle.std.specs.Prelude.{◌≡◌, ◌+◌, ◌-◌, ◌≤◌, ◌<◌, max, All, length, replicate, reverse, take, false, true};
-ghost use Rattle.std.specs.Prelude.{[], ◌∷◌, slice_set, OnOk};
+ghost use Rattle.std.specs.Prelude.{◌≡◌, ◌+◌, ◌-◌, ◌≤◌, ◌<◌, max, All, length, replicate, reverse, take, take_while, false, true};
+ghost use Rattle.std.specs.Prelude.{[], ◌∷◌, ◌==◌, slice_index_or, slice_set, OnOk};
 ghost use Rattle.mal_base.specs.{Limits.{greatest_variable}, Literals.{var_of}};
 ghost use Rattle.mal_learn.specs.{Working.{see, see_all, lits_of, kept, resolved, by_reason, visited, visited_all, here_all}, Tracing.{begun_with, traced, traced_all, traced_from}, Shortening.{covers, is_left_out, by_shorter_reason, shorter_state, shorter_visited_all}, Shown.{IsFitted, IsFinished, HasWalkRoom, AreWithin, ClausesWithin, EntriesWithin, last_of}};
 
@@ -91,6 +91,14 @@ impl Work {
         ensures { result ≡ last_of self.now.state.hints }
     {
         self.hints[self.hints.len() - 1]
+    }
+
+    /// Whether a variable is seen.
+    pub fn has_seen(&self, var: Var) -> bool
+        requires { var < self.now.room }
+        ensures { result ≡ slice_index_or self.now.state.seen var false }
+    {
+        self.seen.has(var.number() as usize)
     }
 
     /// Sees a variable.
@@ -206,6 +214,25 @@ impl Work {
         let count = trail.len();
         for made in 0..count {
             let entry = trail.at(count - 1 - made);
+            self.visit(clauses, entry, level);
+        }
+    }
+
+    /// Passes the entries of this level with which a trail ends, the latest first.
+    pub fn walk_level<T: TrailView, C: ClauseView>(&mut self, trail: &T, clauses: &C, level: u32)
+        requires room { HasWalkRoom (T.entries trail.now) self.old }
+        requires within { ClausesWithin self.old.room (C.clauses clauses.now) }
+        ensures state { self.new.state
+            ≡ visited_all (C.clauses clauses.now) level
+            (take_while (λ e. e.level == level) (reverse (T.entries trail.now))) self.old.state }
+        ensures room { self.new.room ≡ self.old.room }
+    {
+        let count = trail.len();
+        for made in 0..count {
+            let entry = trail.at(count - 1 - made);
+            if entry.level != level {
+                return;
+            }
             self.visit(clauses, entry, level);
         }
     }

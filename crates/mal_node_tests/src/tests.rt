@@ -6,3 +6,4 @@ mod going;
 mod suspend;
 mod suspend_going;
 mod suspend_lease;
+mod way;

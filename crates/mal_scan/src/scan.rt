@@ -65,6 +65,8 @@ impl Engine for Scan {
 
     ghost fits_cut = { λ engine entries processed level fits. tt };
 
+    ghost fits_alike = { λ engine entries others processed alike fits. tt };
+
     ghost fits_less = { λ engine entries processed less bound fits. tt };
 }
 

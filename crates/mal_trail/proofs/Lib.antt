@@ -3,6 +3,7 @@ pub mod TrailLemmas
 pub mod CutLemmas
 pub mod FoundLemmas
 pub mod FlipLemmas
+pub mod AlikeLemmas
 -- what this crate alone cites
 mod LevelLemmas
 mod PlaceLemmas

@@ -1,6 +1,6 @@
 //! Engines of unit propagation.
 
-ghost use Rattle.std.specs.Prelude.{◌≡◌, ℕ, ◌+◌, ◌≤◌, true, List, [], ◌∷◌, ◌++◌, length, min, None, OnOk};
+ghost use Rattle.std.specs.Prelude.{◌≡◌, ℕ, ◌+◌, ◌≤◌, true, List, [], ◌∷◌, ◌++◌, length, map, min, None, OnOk};
 ghost use Rattle.mal_base.specs.{Limits.{greatest_variable}, Clauses.{rises}, NumberedClause.{lits_under}, declared.trail_entry.TrailEntry.{TrailEntry}};
 ghost use Rattle.spec_node.specs.{Adding.{with_clause, forgetting}, Batch.{after_batch}, Cut.{kept}};
 ghost use Rattle.mal_trail.specs.Rooms.{Room, HasRoom, IsRoomFor, IsLeft, are_within};
@@ -85,6 +85,10 @@ pub trait Engine: ClauseView + Drop {
 
     ghost fits_cut: { (engine : Self) (entries : List TrailEntry) (processed level : ℕ) → fits engine entries processed
         → fits engine (kept level entries) (min processed (length (kept level entries) + 1)) };
+
+    ghost fits_alike: { (engine : Self) (entries others : List TrailEntry) (processed : ℕ)
+        → map (λ e. e.lit) others ≡ map (λ e. e.lit) entries → fits engine entries processed
+        → fits engine others processed };
 
     ghost fits_less: { (engine : Self) (entries : List TrailEntry) (processed less : ℕ) → less ≤ processed
         → fits engine entries processed → fits engine entries less };

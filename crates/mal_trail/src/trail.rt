@@ -1,7 +1,7 @@
 //! The trail: the literals that are true, in the order in which they became so.
 
-ghost use Rattle.std.specs.Prelude.{vec_len, vec_capacity, All, ◌≡◌, ℕ, ◌+◌, ◌-◌, ◌≤◌, ◌<◌, false, [], ◌∷◌, ◌++◌, length, take, drop, map, min, nat_lt, true, Some, None, OnOk};
-ghost use Rattle.mal_base.specs.{Limits.{greatest_variable}, Literals.{var_of, literal, negated, IsLiteral}, Trails.{value_on}};
+ghost use Rattle.std.specs.Prelude.{vec_len, vec_capacity, All, ◌≡◌, ℕ, ◌+◌, ◌-◌, ◌≤◌, ◌<◌, false, [], ◌∷◌, ◌++◌, length, take, drop, map, min, nat_lt, true, slice_get, slice_set, Some, None, OnOk};
+ghost use Rattle.mal_base.specs.{Limits.{greatest_variable}, Literals.{var_of, literal, negated, IsLiteral}, Trails.{value_on}, declared.trail_entry.TrailEntry.{TrailEntry}};
 ghost use Rattle.spec_node.specs.{Load.{counted}, Cut.{kept, removed}, Value.{is_true, is_false, has_value, level_of}};
 ghost use Rattle.mal_trail.specs.Trailed.{false_place, cleared};
 
@@ -206,6 +206,21 @@ impl Trail {
         self.false_places[code] = self.entries.len() as u32;
         self.entries
             .push_reserved(TrailEntry { lit, reason, level });
+    }
+
+    /// Gives the entry at a place another reason: a clause that forces its literal too.
+    pub fn set_reason(&mut self, place: usize, reason: ClauseId)
+        requires { place < length self.old.entries }
+        ensures entries { (e : TrailEntry) → slice_get self.old.entries place ≡ Some e
+            → self.new.entries ≡ slice_set self.old.entries place (record { lit = e.lit; reason = Some reason; level = e.level }) }
+        ensures processed { self.new.processed ≡ self.old.processed }
+        ensures room { self.new.room ≡ self.old.room }
+    {
+        let entry = self.entries[place];
+        self.entries[place] = TrailEntry {
+            reason: Some(reason),
+            ..entry
+        };
     }
 
     /// Leaves the first entries, so many. No more batches count as handled than the trail then has prefixes.

@@ -1,9 +1,10 @@
-use Rattle.std.specs.Prelude.{◌≡◌, ◌≢◌, ℕ, ◌+◌, ◌-◌, ◌<◌, ◌≤◌, min, List, [], ◌∷◌, ◌++◌, length, take, slice_index}
-use Rattle.std.proofs.Common.{refl, sym, ap, ◌∙◌, arith}
+use Rattle.std.specs.Prelude.{◌≡◌, ◌≢◌, ℕ, ◌+◌, ◌-◌, ◌<◌, ◌≤◌, min, List, [], ◌∷◌, ◌++◌, length, map, take, slice_index}
+use Rattle.std.proofs.Common.{refl, sym, ap, ◌∙◌, arith, inl, inr, ⊎_elim}
 use Rattle.std.proofs.lemmas.List.{take-append-le, take-take}
 use Rattle.mal_base.specs.NumberedClause.{NumberedClause}
 use Rattle.mal_base.specs.declared.trail_entry.TrailEntry.{TrailEntry}
 use Rattle.mal_trail.proofs.CutLemmas.{kept-take}
+use Rattle.mal_trail.proofs.AlikeLemmas.{true-alike, false-alike}
 use Rattle.spec_node.specs.Cut.{kept}
 use Rattle.mal_watch.specs.Following.{Follows}
 use Rattle.mal_watch.specs.Watching.{other_key, IsWatching, IsWatchKept}
@@ -39,3 +40,14 @@ follows-cut clauses watched keys out lists capacity entries processed level f =
     follows-same clauses watched keys out lists capacity entries (kept level entries) processed (min processed (length (kept level entries) + 1)) (omega arith) (λ n h.
     let within : n ≤ length (kept level entries) = omega arith in
     ap (λ (es : List TrailEntry). take n es) (sym (kept-take level entries)) ∙ take-take n (length (kept level entries)) entries within) f
+
+-- and each trail with the same literals
+pub follows-alike : (clauses watched : List NumberedClause) (keys out : List ℕ) (lists capacity : ℕ) (entries others : List TrailEntry) (processed : ℕ) → map (λ (e : TrailEntry). e.lit) others ≡ map (λ (e : TrailEntry). e.lit) entries → Follows clauses watched keys out lists capacity entries processed → Follows clauses watched keys out lists capacity others processed
+follows-alike clauses watched keys out lists capacity entries others processed alike f =
+    follows-with clauses watched keys out keys out lists lists capacity capacity entries others processed processed f f.watching f.apart f.idle f.room (λ n k h m. kept-alike n k (f.kept n k h m))
+  where
+    kept-alike : (n k : ℕ) → IsWatchKept (take n entries) watched keys k → IsWatchKept (take n others) watched keys k
+    kept-alike n k w h = ⊎_elim
+        (λ a. inl (λ x has apart. false-alike n x entries others alike ∙ a x has apart))
+        (λ t. inr (true-alike n (other_key keys k) entries others alike ∙ t))
+        (w (sym (false-alike n (slice_index keys k) entries others alike) ∙ h))

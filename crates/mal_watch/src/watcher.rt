@@ -4,7 +4,7 @@ ghost use Rattle.std.specs.Prelude.{◌≡◌, ◌+◌, ◌≤◌, true, length,
 ghost use Rattle.mal_base.specs.{Clauses.{rises}, NumberedClause.{lits_under}};
 ghost use Rattle.spec_node.specs.{Adding.{with_clause}, Batch.{after_batch}};
 ghost use Rattle.mal_trail.specs.{Rooms.{IsRoomFor, IsLeft, are_within}, Trailed.{Grows}};
-ghost use Rattle.mal_watch.specs.{Finding.{pending}, Fitting.{room_in, Fits}, FollowLaws.{follows-push, follows-cut, follows-less}};
+ghost use Rattle.mal_watch.specs.{Finding.{pending}, Fitting.{room_in, Fits}, FollowLaws.{follows-push, follows-cut, follows-alike, follows-less}};
 
 use crate::found::Found;
 use crate::watch_lists::WatchLists;
@@ -167,6 +167,8 @@ impl Engine for Watcher {
     ghost fits_push = { λ engine entries entry processed bound fits. follows-push _ _ _ _ _ _ entries entry processed bound fits };
 
     ghost fits_cut = { λ engine entries processed level fits. follows-cut _ _ _ _ _ _ entries processed level fits };
+
+    ghost fits_alike = { λ engine entries others processed alike fits. follows-alike _ _ _ _ _ _ entries others processed alike fits };
 
     ghost fits_less = { λ engine entries processed less bound fits. follows-less _ _ _ _ _ _ entries processed less bound fits };
 }

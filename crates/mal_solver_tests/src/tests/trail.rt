@@ -1,6 +1,9 @@
 //! Trails whose cuts and values are known.
 
-use mal_base::{ClauseId, TrailView, Var};
+ghost use Rattle.std.specs.Prelude.{◌≡◌, ◌<◌, All, true};
+
+use mal_base::{ClauseId, Lit, TrailView, Var};
+use mal_glue::Levels;
 use mal_trail::Trail;
 use std::alloc::Global;
 
@@ -85,4 +88,75 @@ fn a_cut_takes_levels_away_and_lowers_what_is_handled(rt: HostRuntime) {
     assert!(rt; cut(&mut trail) == Some(CUT));
     trail.back_to(0);
     assert!(rt; trail.level() == 0 && TrailView::len(&trail) == 0);
+}
+
+/// The reason of the entry at a place, if there is one.
+fn reason_at(trail: &Trail, place: usize) -> Option<ClauseId> {
+    if place < trail.len() {
+        return trail.at(place).reason;
+    }
+    None
+}
+
+/// The reasons of a filled trail, once the second entry has got another one.
+fn reasons(trail: &mut Trail) -> Option<[Option<ClauseId>; 3]> {
+    fill(trail)?;
+    if trail.len() < 2 {
+        return None;
+    }
+    trail.set_reason(1, ClauseId::original(9));
+    Some([
+        reason_at(trail, 0),
+        reason_at(trail, 1),
+        reason_at(trail, 2),
+    ])
+}
+
+#[test]
+fn an_entry_gets_another_reason(rt: HostRuntime) {
+    let mut trail = Trail::new(rt.alloc());
+    let reasons = reasons(&mut trail);
+    assert!(rt; reasons == Some([None, Some(ClauseId::original(9)), None]));
+    assert!(rt; shown(&trail) == CUT[0]);
+}
+
+/// Whether each entry of a trail has a level below this one.
+fn has_levels_below(trail: &Trail, levels: u32) -> bool
+    ensures { result ≡ true → All (λ e. e.level < levels) trail.now.entries }
+{
+    for entry in trail.entries() {
+        if levels <= entry.level {
+            return false;
+        }
+    }
+    true
+}
+
+/// The glue of literals on a trail of fewer than three levels.
+fn glue_on(alloc: Global, trail: &Trail, lits: &[Lit]) -> Option<usize> {
+    let mut levels = Levels::new(alloc);
+    levels.fit(3).ok()?;
+    if !has_levels_below(trail, 3) {
+        return None;
+    }
+    Some(levels.glue(trail, lits))
+}
+
+/// The glue of three literals on a filled trail, of two of one level, and of none.
+fn glues(alloc: Global) -> Option<[usize; 3]> {
+    let mut trail = Trail::new(alloc);
+    fill(&mut trail)?;
+    let first = Var::of(1).literal(true);
+    let second = Var::of(2).literal(false);
+    let third = Var::of(3).literal(false);
+    Some([
+        glue_on(alloc, &trail, &[first, second, third])?,
+        glue_on(alloc, &trail, &[first, second])?,
+        glue_on(alloc, &trail, &[])?,
+    ])
+}
+
+#[test]
+fn each_level_counts_once(rt: HostRuntime) {
+    assert!(rt; glues(rt.alloc()) == Some([2, 1, 0]));
 }

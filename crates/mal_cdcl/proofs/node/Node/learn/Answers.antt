@@ -1,91 +1,50 @@
-use Rattle.std.proofs.Common.{◌≡◌, ℕ, ◌+◌, true, List, [], ◌∷◌, length, None, refl, sym, ap, ◌∙◌, subst, arith}
-use Rattle.mal_base.specs.declared.trail_entry.TrailEntry.{TrailEntry}
+use Rattle.std.proofs.Common.{◌≡◌, ℕ, ◌+◌, true, List, sym, ap, ◌∙◌, subst, arith}
 use Rattle.spec_node.specs.State.{Node}
-use Rattle.spec_node.specs.Value.{has_value, left_literal}
-use Rattle.spec_node.specs.Cut.{cut, kept}
-use Rattle.spec_node.specs.Adding.{with_clause}
+use Rattle.spec_node.specs.Value.{has_value}
 use Rattle.spec_learn.specs.Analysis.{vars_in}
-use Rattle.spec_learn.specs.Learning.{analysis, derived_id, forced_by, counted_in, learned}
+use Rattle.spec_learn.specs.Learning.{analysis, counted_in, learned}
 use Rattle.spec_learn.specs.Order.{moved_all}
-use Rattle.mal_cdcl.specs.Within.{NodeWithRoom, IsNode, IsPast}
+use Rattle.mal_cdcl.specs.Within.{NodeWithRoom, IsNode}
 use Rattle.mal_cdcl.proofs.ImageLemmas.{formed-node}
-use Rattle.mal_cdcl.proofs.PastLemmas.{past-more}
 use Rattle.mal_cdcl.proofs.BumpLemmas.{are_in}
-use Rattle.spec_learn.proofs.GoalLemmas.{number-new}
-use Rattle.mal_cdcl.proofs.DeriveLemmas.{fit-learned, formed-learned, has-learned, processed-learned, free-learned, forced-keeps}
+use Rattle.mal_cdcl.proofs.DeriveLemmas.{formed-learned, has-learned}
 use Rattle.mal_cdcl.proofs.node.Node.learn.Goals as goal
-
-pub learn-requires-clause-new : goal.learn-requires-clause-new
-learn-requires-clause-new g c =
-    let n = c.args.self.now.state in
-    let held : g.E.ClauseView.clauses c.self.inside.engine ≡ n.clauses = ap (λ (s : NodeWithRoom). s.state.clauses) c.self.view_is ∙ ap (λ (m : Node). m.clauses) c.cut.ensures.state in
-    rw (held, c.requires.number) (number-new n c.requires.sound)
-
-pub learn-requires-clause-form : goal.learn-requires-clause-form
-learn-requires-clause-form g c =
-    let n = c.args.self.now.state in
-    rw (c.clause.ensures, c.requires.shown.lits) (fit-learned n c.args.id c.requires.sound c.requires.conflict c.requires.level).rising
-
-pub force-requires : goal.force-requires
-force-requires g c l q =
-    let n = c.args.self.now.state in
-    let level : c.level.result ≡ (analysis c.args.id n).level = c.level.ensures ∙ c.requires.shown.level in
-    let same = ap (λ (s : NodeWithRoom). s.state) c.self.view_is ∙ c.cut.ensures.state in
-    let trail : c.self.inside.trail.entries ≡ kept (analysis c.args.id n).level n.trail = ap (λ (m : Node). m.trail) same ∙ ap (λ (j : ℕ). kept j n.trail) level in
-    let variables : c.self.inside.variables ≡ n.variables = ap (λ (m : Node). m.variables) same in
-    let lits : c.clause-2.result.now ≡ (analysis c.args.id n).lits = c.clause-2.ensures ∙ c.requires.shown.lits in
-    let free = free-learned n c.args.id l c.requires.sound c.requires.conflict c.requires.level (rw (trail, lits) at q) in
-    record { free = rw trail free.free; room = omega (arith, free.high, variables, c.self.invariant.0.room) }
 
 pub bump_all-requires : goal.bump_all-requires
 bump_all-requires g c =
     let n = c.args.self.now.state in
-    let same = ap (λ (s : NodeWithRoom). s.state) c.self.view_is ∙ c.cut.ensures.state in
+    let same = ap (λ (s : NodeWithRoom). s.state) c.self.view_is ∙ c.teach.ensures.state in
     let order : c.self.inside.order.list ≡ n.order = ap (λ (m : Node). m.order) same in
-    let lits : c.clause-3.result.now ≡ (analysis c.args.id n).lits = c.clause-3.ensures ∙ c.requires.shown.lits in
-    let has : are_in n.order (vars_in c.clause-3.result.now) ≡ true = rw lits (has-learned n c.args.id c.requires.sound c.requires.conflict c.requires.level) in
-    subst (λ (ws : List ℕ). are_in ws (vars_in c.clause-3.result.now) ≡ true) (sym order) has
+    let lits : c.clause.result.now ≡ (analysis c.args.id n).lits = c.clause.ensures ∙ c.requires.shown.lits in
+    let has : are_in n.order (vars_in c.clause.result.now) ≡ true = rw lits (has-learned n c.args.id c.requires.sound c.requires.conflict c.requires.level) in
+    subst (λ (ws : List ℕ). are_in ws (vars_in c.clause.result.now) ≡ true) (sym order) has
 
 pub invariant_of-self : goal.invariant_of-self
 invariant_of-self g c =
     let n = c.args.self.now.state in
     let a = analysis c.args.id n in
     let v = c.self.inside in
-    let same = ap (λ (s : NodeWithRoom). s.state) c.self.view_is ∙ (c.cut.ensures.state ∙ ap (λ (j : ℕ). cut j n) (c.level.ensures ∙ c.requires.shown.level)) in
+    let same = ap (λ (s : NodeWithRoom). s.state) c.self.view_is ∙ c.teach.ensures.state in
     let lits : c.clause.result.now ≡ a.lits = c.clause.ensures ∙ c.requires.shown.lits in
-    let held : g.E.ClauseView.clauses v.engine ≡ n.clauses = ap (λ (m : Node). m.clauses) same in
-    let whole : g.E.ClauseView.clauses c.learn.new.self ≡ with_clause (record { id = derived_id n; lits = a.lits }) n.clauses = rw (c.learn.ensures.clauses, lits, c.requires.number, held) refl in
-    let lits3 : c.clause-3.result.now ≡ a.lits = c.clause-3.ensures ∙ c.requires.shown.lits in
-    let listed : c.bump_all.new.order.list ≡ moved_all (vars_in a.lits) n.order = rw (c.bump_all.ensures.list, lits3) (ap (λ (m : Node). moved_all (vars_in a.lits) m.order) same) in
-    let variables : v.variables ≡ n.variables = ap (λ (m : Node). m.variables) same in
+    let listed : c.bump_all.new.order.list ≡ moved_all (vars_in a.lits) n.order = rw (c.bump_all.ensures.list, lits) (ap (λ (m : Node). moved_all (vars_in a.lits) m.order) same) in
     let turned : c.bump_all.new.order.index ≡ n.index = c.bump_all.ensures.index ∙ (c.self.invariant.0.turned ∙ ap (λ (m : Node). m.index) same) in
     let form = formed-learned n c.args.id c.requires.sound c.requires.conflict c.requires.level c.requires.counts.serial in
-    let after : IsNode n.index n.variables c.force.new.trail.room n.assumptions c.bump_all.new.order (cut a.level n).phases (g.E.ClauseView.clauses c.learn.new.self) = rw whole (formed-node (learned c.args.id n) c.force.new.trail.room c.bump_all.new.order (omega (arith, c.self.invariant.0.room, variables, c.force.ensures.room)) turned listed form) in
-    let handled : v.trail.processed ≡ length v.trail.entries + 1 = ap (λ (m : Node). m.processed) same ∙ (processed-learned n c.args.id c.requires.sound c.requires.conflict c.requires.level ∙ sym (ap (λ (m : Node). length m.trail + 1) same)) in
-    let past : IsPast c.force.new.trail.entries v.order v.assumptions.items v.passed = rw c.force.ensures.entries (forced-keeps (λ (es : List TrailEntry). IsPast es v.order v.assumptions.items v.passed) c.args.number v.trail.entries (left_literal v.trail.entries c.clause-2.result.now) c.self.invariant.2 (λ e. past-more v.trail.entries (e ∷ []) v.order v.assumptions.items v.passed c.self.invariant.2)) in (
-      subst (λ (m : Node). IsNode m.index m.variables c.force.new.trail.room m.assumptions c.bump_all.new.order m.phases (g.E.ClauseView.clauses c.learn.new.self)) (sym same) after,
-      rw (c.force.ensures.entries, c.force.ensures.processed) (forced-keeps (λ (es : List TrailEntry). g.E.Engine.fits c.learn.new.self es v.trail.processed) c.args.number v.trail.entries (left_literal v.trail.entries c.clause-2.result.now) c.learn.ensures.fits (λ e. g.met.E.Engine.fits_push c.learn.new.self v.trail.entries e v.trail.processed (omega (arith, handled)) c.learn.ensures.fits)),
-      record { valued = c.bump_all.ensures.passed (has_value c.force.new.trail.entries) past.valued; assumed = past.assumed },
+    let variables : v.variables ≡ n.variables = ap (λ (m : Node). m.variables) same in
+    let after = formed-node (learned c.args.id n) v.trail.room c.bump_all.new.order (omega (arith, c.self.invariant.0.room, variables)) turned listed form in (
+      subst (λ (m : Node). IsNode m.index m.variables v.trail.room m.assumptions c.bump_all.new.order m.phases m.clauses) (sym same) after,
+      c.self.invariant.1,
+      record { valued = c.bump_all.ensures.passed (has_value v.trail.entries) c.self.invariant.2.valued; assumed = c.self.invariant.2.assumed },
     )
 
 pub returns-clause-state : goal.returns-clause-state
 returns-clause-state g c =
     let n = c.args.self.now.state in
     let a = analysis c.args.id n in
-    let v = c.self.inside in
-    let same = ap (λ (s : NodeWithRoom). s.state) c.self.view_is ∙ (c.cut.ensures.state ∙ ap (λ (j : ℕ). cut j n) (c.level.ensures ∙ c.requires.shown.level)) in
+    let same = ap (λ (s : NodeWithRoom). s.state) c.self.view_is ∙ c.teach.ensures.state in
     let lits : c.clause.result.now ≡ a.lits = c.clause.ensures ∙ c.requires.shown.lits in
-    let lits2 : c.clause-2.result.now ≡ a.lits = c.clause-2.ensures ∙ c.requires.shown.lits in
-    let lits3 : c.clause-3.result.now ≡ a.lits = c.clause-3.ensures ∙ c.requires.shown.lits in
-    let handled : v.trail.processed ≡ length v.trail.entries + 1 = ap (λ (m : Node). m.processed) same ∙ (processed-learned n c.args.id c.requires.sound c.requires.conflict c.requires.level ∙ sym (ap (λ (m : Node). length m.trail + 1) same)) in
-    rw (c.counted-count.ensures, c.policy-reduction.ensures, c.bump_all.ensures.list, c.force.ensures.entries, c.force.ensures.processed, c.learn.ensures.clauses, handled, lits, lits2, lits3, c.requires.number)
+    rw (c.counted-count.ensures, c.policy-reduction.ensures, c.bump_all.ensures.list, lits)
     (ap (λ (m : Node). record m {
-      serial = m.serial + 1;
       conflicts_since_restart = m.conflicts_since_restart + 1;
       conflicts_since_dropping = counted_in m.profile m.conflicts_since_dropping;
-      processed = length m.trail + 1;
-      conflict = None;
       order = moved_all (vars_in a.lits) m.order;
-      trail = forced_by (derived_id n) m.trail (left_literal m.trail a.lits);
-      clauses = with_clause (record { id = derived_id n; lits = a.lits }) m.clauses;
     }) same)

@@ -1,9 +1,7 @@
-use Rattle.std.proofs.Common.{◌≡◌, true, List, [], ◌∷◌, sym, subst}
+use Rattle.std.proofs.Common.{List}
 use Rattle.mal_base.specs.NumberedClause.{NumberedClause}
-use Rattle.spec_node.specs.Sound.{NumbersRise}
-use Rattle.mal_trail.specs.Rooms.{are_within}
 use Rattle.mal_cdcl.proofs.HeldCountLemmas.{within-fewer, rising-fewer}
-use Rattle.mal_cdcl.proofs.node.Node.give_up.Goals as goal
+use Rattle.mal_cdcl.proofs.node.Node.forget.Goals as goal
 
 pub invariant_of-self : goal.invariant_of-self
 invariant_of-self g c =
@@ -19,8 +17,8 @@ invariant_of-self g c =
         ordered = inv.ordered;
         complete = inv.complete;
         phased = inv.phased;
-        claused = subst (λ (cs : List NumberedClause). are_within n.variables cs ≡ true) (sym c.forget.ensures.clauses) (within-fewer n.variables (c.args.id ∷ []) held inv.claused);
-        rising = subst (λ (cs : List NumberedClause). NumbersRise 1 cs) (sym c.forget.ensures.clauses) (rising-fewer (c.args.id ∷ []) held inv.rising);
+        claused = rw c.forget.ensures.clauses (within-fewer n.variables _ held inv.claused);
+        rising = rw c.forget.ensures.clauses (rising-fewer _ held inv.rising);
       },
       c.forget.ensures.fits n.trail.entries n.trail.processed c.self.invariant.1,
       c.self.invariant.2,
