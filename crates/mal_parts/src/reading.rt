@@ -8,13 +8,14 @@ ghost use Rattle.mal_io.specs.Moves.{Rose};
 ghost use Rattle.mal_parts.specs.Reading.{EndsBy, HasCome, HasRead, StopsIn, WentOn, end_by, open_after};
 ghost use Rattle.spec_feed.specs.Reading.{closings};
 ghost use Rattle.spec_feed.specs.declared.post.FeedPost.{FeedPost};
-ghost use Rattle.spec_feed.specs.declared.post.FeedPost.TheVariants.{Closes, Opens};
+ghost use Rattle.spec_feed.specs.declared.post.FeedPost.TheVariants.{Closes, Opens, Takes};
 ghost use Rattle.spec_hall.specs.Own.{is_key};
 
 use mal_base::{Ask, Key};
 use mal_feed::{FeedError, FeedFault, FeedPost, Feeder, Taken, read_from_the_start};
 use mal_io::Source;
-use mal_live::{LiveDesk, Refused};
+use mal_live::{LiveDesk, Refused, Signals};
+use spec_script::Step;
 use std::alloc::Global;
 use std::marker::Model;
 use std::sync::Wait;
@@ -316,6 +317,32 @@ fn enter<R: Wait, P: Send + Drop, D: LiveDesk<P>>(
     (pass, answer)
 }
 
+/// Posts a step of a job, a revision once the reader is not too far ahead.
+fn take_step<R: Wait, P: Send + Drop, D: LiveDesk<P>>(
+    rt: &R,
+    desk: &D,
+    pass: P,
+    key: Key,
+    step: Step,
+) -> (P, Result<(), Refused>)
+    requires of { D.is_of desk.now pass }
+    ensures of { D.is_of desk.now result.0 }
+    ensures numbers { D.numbers result.0 ≡ D.numbers pass }
+    ensures posted { OnOk result.1 (D.said result.0 ≡ D.said pass ++ Takes key step ∷ []) }
+    ensures refused { OnErr result.1 (D.said result.0 ≡ D.said pass) }
+{
+    await_room(rt, desk.signals(), &step);
+    enter(rt, desk, pass, FeedPost::Takes { key, step })
+}
+
+/// Waits before a step where it is a revision and too many of those have no reply. A new ask adds nothing to be answered.
+fn await_room<R: Wait>(rt: &R, signals: &Signals, step: &Step) {
+    match step {
+        Step::Revise(_) => signals.await_room(rt),
+        Step::Reask(_) => {}
+    }
+}
+
 /// Whether two keys are the same.
 fn is_key(one: Key, other: Key) -> bool
     ensures { result ≡ is_key one other }
@@ -366,9 +393,7 @@ impl OpenKeys {
         match post {
             None => (pass, Ok(())),
             Some(FeedPost::Opens { key, ask }) => self.open(rt, desk, pass, key, ask),
-            Some(FeedPost::Takes { key, step }) => {
-                enter(rt, desk, pass, FeedPost::Takes { key, step })
-            }
+            Some(FeedPost::Takes { key, step }) => take_step(rt, desk, pass, key, step),
             Some(FeedPost::Closes { key }) => self.close(rt, desk, pass, key),
         }
     }
@@ -424,7 +449,7 @@ impl OpenKeys {
         let (pass, answer) = enter(rt, desk, pass, FeedPost::Closes { key });
         match answer {
             Ok(()) => {
-                self.keys.retain(|open| !is_key(key, *open));
+                self.keys.retain(|held| !is_key(key, *held));
                 (pass, Ok(()))
             }
             Err(refused) => (pass, Err(refused)),

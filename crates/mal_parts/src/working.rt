@@ -27,6 +27,7 @@ pub fn work_all<R: Wait, P: Send + Drop, D: LiveDesk<P>>(
     ensures numbers { D.numbers result ≡ D.numbers pass }
     ensures said { D.said result ≡ D.said pass }
 {
+    desk.signals().begin();
     let pass = work_on(rt, alloc, desk, pass, worker);
     desk.signals().leave();
     pass
@@ -62,12 +63,12 @@ fn work_on<R: Wait, P: Send + Drop, D: LiveDesk<P>>(
         pass = back;
         match worked {
             Worked::Slice => signals.entered(),
-            Worked::Idle => signals.work.sleep(rt, heard),
+            Worked::Idle => signals.rest(rt, heard),
             Worked::AllDone => {
                 if ended {
                     return pass;
                 }
-                signals.work.sleep(rt, heard);
+                signals.rest(rt, heard);
             }
             Worked::OutOfMemory => {
                 if patience == 0 {

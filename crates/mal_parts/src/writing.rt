@@ -1,6 +1,6 @@
 //! The writer of a live service.
 
-ghost use Rattle.std.specs.Prelude.{◌≡◌, ◌≢◌, ◌⊎◌, ◌≤◌, ℕ, List, [], Option, None, Some, IsNone, IsSome};
+ghost use Rattle.std.specs.Prelude.{◌≡◌, ◌≢◌, ◌⊎◌, ◌≤◌, ℕ, List, Option, None, Some, IsNone, IsSome};
 ghost use Rattle.mal_io.specs.Moves.{Rose};
 ghost use Rattle.mal_live.specs.Telling.{Tells};
 ghost use Rattle.mal_live.specs.declared.telling.Teller.{Teller};
@@ -12,7 +12,7 @@ use crate::asking::{Asking, again};
 use crate::heading::write_first_line;
 use mal_base::Key;
 use mal_io::Sink;
-use mal_live::{LiveDesk, News, Seen, TellFault, Teller};
+use mal_live::{LiveDesk, News, Seen, Signals, TellFault, Teller};
 use std::alloc::Global;
 use std::sync::Wait;
 use std::thread;
@@ -50,7 +50,6 @@ pub fn tell_all<R: Wait, P: Send + Drop, D: LiveDesk<P>, L: Sink, K: Sink>(
 ) -> (P, Option<Teller>)
     requires of { D.is_of desk.now pass }
     requires size { workers ≡ D.workers desk.now }
-    requires new { D.seen pass ≡ [] }
     ensures of { D.is_of desk.now result.0 }
     ensures numbers { D.numbers result.0 ≡ D.numbers pass }
     ensures said { D.said result.0 ≡ D.said pass }
@@ -139,13 +138,17 @@ fn tell_next<R: Wait, P: Send + Drop, D: LiveDesk<P>, L: Sink, K: Sink>(
     let written = telling.teller.written();
     let (pass, seen) = desk.look(rt, alloc, pass, again(&key), revision, written);
     match seen {
-        Ok(seen) => (pass, tell_seen(telling, key, seen, log, out)),
+        Ok(seen) => (
+            pass,
+            tell_seen(desk.signals(), telling, key, seen, log, out),
+        ),
         Err(_) => (pass, Step::OutOfMemory),
     }
 }
 
 /// Writes the events that were seen, and then tells the reply to a job, which they explain.
 fn tell_seen<L: Sink, K: Sink>(
+    signals: &Signals,
     telling: &mut Telling,
     key: Key,
     seen: Seen,
@@ -179,7 +182,10 @@ fn tell_seen<L: Sink, K: Sink>(
     };
     telling.asking.add(touched);
     match telling.teller.tell(out, key, reply.as_slice()) {
-        Ok(()) => Step::More,
+        Ok(()) => {
+            signals.reply_told();
+            Step::More
+        }
         Err(TellFault::Broken) => Step::Broken,
         Err(TellFault::OutOfMemory) => Step::OutOfMemory,
     }
