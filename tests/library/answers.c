@@ -40,22 +40,32 @@ void __wrap_free(void *block) {
     __real_free(block);
 }
 
-/* So many questions about a chain of implications; of each kind there are ten. */
-static void ask(void *solver, long count, int refuted) {
+/* What is asked: a model, failed assumptions, or clauses that were refuted without assumptions, by propagation alone or by a search. */
+enum kind { SATISFIABLE, FAILED, PROPAGATED, SEARCHED };
+
+static const char *const names[] = {"10", "20", "20 by propagation", "20 by search"};
+
+/* So many questions, of ten different ones. */
+static void ask(void *solver, long count, enum kind kind) {
     for (long i = 0; i < count; i++) {
-        ipasir_assume(solver, 1 + (int)(i % 10));
-        if (refuted) ipasir_assume(solver, -20);
-        WANT(ipasir_solve(solver) == (refuted ? 20 : 10));
+        int first = 1 + (int)(i % 10);
+        ipasir_assume(solver, first);
+        if (kind == FAILED) ipasir_assume(solver, -20);
+        WANT(ipasir_solve(solver) == (kind == SATISFIABLE ? 10 : 20));
+        WANT(kind == SATISFIABLE || ipasir_failed(solver, first) == (kind == FAILED));
     }
 }
 
-static void try_answers(long count, int refuted) {
+static void try_answers(long count, enum kind kind) {
     void *solver = ipasir_init();
-    for (int i = 1; i < 20; i++) CLAUSE(solver, -i, i + 1);
-    ask(solver, 1000, refuted);
+    if (kind == SEARCHED) add_pigeons(solver, 5);
+    for (int i = 1; i < 20 && kind != SEARCHED; i++) CLAUSE(solver, -i, i + 1);
+    if (kind == PROPAGATED) CLAUSE(solver, 1), CLAUSE(solver, -20);
+    if (kind >= PROPAGATED) WANT(ipasir_solve(solver) == 20);
+    ask(solver, 1000, kind);
     size_t before = held;
-    ask(solver, count, refuted);
-    printf("%ld answers %d: %zu bytes at first, %zu at last\n", count, refuted ? 20 : 10, before, held);
+    ask(solver, count, kind);
+    printf("%ld answers %s: %zu bytes at first, %zu at last\n", count, names[kind], before, held);
     fflush(stdout);
     WANT(held <= before + before / 2);
     ipasir_release(solver);
@@ -65,7 +75,6 @@ static void try_answers(long count, int refuted) {
 int main(int words, char **word) {
     WANT(words == 2);
     setvbuf(stdout, NULL, _IONBF, 0);
-    try_answers(atol(word[1]), 0);
-    try_answers(atol(word[1]), 1);
+    for (enum kind kind = SATISFIABLE; kind <= SEARCHED; kind++) try_answers(atol(word[1]), kind);
     return 0;
 }

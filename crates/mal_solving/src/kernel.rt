@@ -1,20 +1,22 @@
 //! A solver node that takes clauses and assumptions at any time, and runs slices.
 
-ghost use Rattle.std.specs.Prelude.{◌≡◌, ℕ, ◌+◌, [], ◌++◌, length, Some, None, is_some, IfOk, OnOk, OnErr, MatchResult};
+ghost use Rattle.std.specs.Prelude.{◌≡◌, ℕ, ◌+◌, [], ◌++◌, length, Some, None, is_some, IfOk, IfSome, OnOk, OnErr, MatchResult};
 ghost use Rattle.mal_base.specs.declared.verdict.Verdict.TheVariants.{Satisfiable, Unsatisfiable};
-ghost use Rattle.spec_node.specs.State.{fresh_with};
+ghost use Rattle.spec_node.specs.{State.{fresh_with}, Sound.{IsSound}};
+ghost use Rattle.spec_search.specs.Slice.{slice};
 ghost use Rattle.spec_solving.specs.Solving.{Promises, Answer.{Open, Unknown, Core}};
-ghost use Rattle.spec_solving.specs.Holding.{given_up_if};
+ghost use Rattle.spec_solving.specs.Holding.{all_given_up, may_be_given_up, HasGivenUp};
 ghost use Rattle.mal_solving.specs.Loaded.{core_lines};
 
 use crate::answer::Answer;
 use crate::given::{Given, with_revision};
 use crate::log::{empty_log, enter, last_negated, refutation};
-use mal_base::{ClauseId, Lit, Profile, Verdict, grown};
+use mal_base::{ClauseId, Lines, Lit, Profile, Verdict, grown};
 use mal_cdcl::Node;
-use mal_learn::Scratch;
+use mal_learn::{Scratch, is_reason};
 use mal_proof::Log;
 use mal_revision::Revision;
+use mal_trail::Trail;
 use mal_watch::Watcher;
 use spec_solving::Refusal;
 use std::alloc::{AllocError, Global};
@@ -29,8 +31,10 @@ pub struct Kernel {
     scratch: Scratch,
     log: Option<Log>,
     given: Given,
-    /// The clause that an answer derived without a conflict: it is found again as fast, so it is not kept.
-    easy: Option<ClauseId>,
+    /// The goals of answers that are found again as fast without them: a load gives them up, many at a time.
+    easy: Vec<ClauseId>,
+    /// Whether a goal without literals was kept, which every slice from then on finds at once.
+    refuted: bool,
     count: u32,
     alloc: Global,
 }
@@ -58,7 +62,8 @@ impl Kernel {
             scratch: Scratch::new(alloc),
             log: empty_log(alloc, proving),
             given: Given::Nothing,
-            easy: None,
+            easy: Vec::new(alloc),
+            refuted: false,
             count: 0,
             alloc,
         }
@@ -88,10 +93,10 @@ impl Kernel {
         ensures same { OnErr result (self.new ≡ self.old) }
     {
         let count = grown(self.count as usize, revision.clauses().len(), MOST_CLAUSES)?;
+        self.easy.reserve(1)?;
         self.node
             .ready(&[(revision, self.count + 1)], &[], &mut self.scratch)?;
-        give_up(&mut self.node, self.easy);
-        self.easy = None;
+        give_up_many(&mut self.node, &mut self.easy);
         self.given = with_revision(&self.given, revision);
         self.count = count as u32;
         Ok(())
@@ -109,17 +114,13 @@ impl Kernel {
         ensures promises { IfOk result
             (λ a. Promises (is_some self.old.kept) self.old.clauses self.old.node.assumptions a) }
     {
-        if !self.node.may_run() {
-            return Err(Refusal::Limit);
-        }
-        let Ok(()) = self.node.ready(&[], &[], &mut self.scratch) else {
-            return Err(Refusal::OutOfMemory);
-        };
         let proving = self.log.is_some();
-        self.node.run(&mut self.scratch);
-        let lines = self.node.take_lines();
+        let lines = run_slice(&mut self.node, &mut self.scratch)?;
         let failed = last_negated(self.alloc, &lines);
-        self.easy = easy_goal(self.node.verdict(), lines.count());
+        let empty = ends_empty(&lines);
+        let easy = easy_goal(self.node.verdict(), lines.count(), empty, self.refuted);
+        note(&mut self.easy, easy);
+        self.refuted = self.refuted || empty;
         enter(self.alloc, &mut self.log, lines, &mut self.scratch);
         if self.log.is_some() != proving {
             return Err(Refusal::OutOfMemory);
@@ -175,25 +176,84 @@ impl Kernel {
     }
 }
 
-/// Gives up the clause of one number, if there is one.
-fn give_up(node: &mut Node<Watcher>, id: Option<ClauseId>)
-    ensures { node.new.state ≡ given_up_if id node.old.state }
+/// Gives up the clauses of these numbers, where they are many.
+fn give_up_many(node: &mut Node<Watcher>, ids: &mut Vec<ClauseId>)
+    ensures { HasGivenUp node.old.state node.new.state }
 {
-    if let Some(id) = id {
-        node.give_up(id);
+    if ids.len() >= MANY_EASY {
+        give_up_all(node, ids);
     }
 }
 
-/// The goal of a verdict that a slice of so many lines came to, where it is the only line.
-fn easy_goal(verdict: Option<Verdict>, lines: usize) -> Option<ClauseId> {
-    if lines != 1 {
+/// Gives up the clauses of these numbers that are derived and no entry's reason, and empties the list. Each call goes over
+/// all clauses.
+fn give_up_all(node: &mut Node<Watcher>, ids: &mut Vec<ClauseId>)
+    ensures { node.new.state ≡ all_given_up ids.old.items node.old.state }
+{
+    let trail = node.trail();
+    ids.retain(|id| may_be_given_up(trail, *id));
+    node.forget(ids.as_mut_slice());
+    ids.clear();
+}
+
+/// Whether the clause of a number is derived and no entry's reason.
+fn may_be_given_up(trail: &Trail, id: ClauseId) -> bool
+    ensures { result ≡ may_be_given_up trail.now.entries id }
+{
+    id.number() >= FIRST_DERIVED && !is_reason(trail, id, &[])
+}
+
+/// Notes a goal, if there is one, where there is room for it: a goal that is not noted stays, and costs time alone.
+fn note(easy: &mut Vec<ClauseId>, goal: Option<ClauseId>) {
+    if let Some(goal) = goal
+        && easy.len() < easy.capacity()
+    {
+        easy.push_reserved(goal);
+    }
+}
+
+/// Runs a slice of a node, and takes its lines.
+#[tactic(auto, using(crate::proofs::KernelLemmas::slice_assumed))]
+fn run_slice(node: &mut Node<Watcher>, scratch: &mut Scratch) -> Result<Lines, Refusal>
+    requires sound { IsSound node.old.state }
+    ensures lines { IfOk result (λ l. l.lines ≡ (slice node.old.state).lines) }
+    ensures node { OnOk result (node.new.state ≡ (slice node.old.state).node) }
+    ensures same { OnErr result (node.new.state ≡ node.old.state) }
+    ensures assumed { node.new.state.assumptions ≡ node.old.state.assumptions }
+{
+    if !node.may_run() {
+        return Err(Refusal::Limit);
+    }
+    if node.ready(&[], &[], scratch).is_err() {
+        return Err(Refusal::OutOfMemory);
+    }
+    node.run(scratch);
+    Ok(node.take_lines())
+}
+
+/// Whether the last line has no literals.
+fn ends_empty(lines: &Lines) -> bool {
+    let count = lines.count();
+    count > 0 && lines.lits(count - 1).is_empty()
+}
+
+/// The goal of a verdict that a slice of so many lines came to, where the next one finds it again as fast: it is the
+/// only line, or is empty as one that was kept.
+fn easy_goal(verdict: Option<Verdict>, lines: usize, empty: bool, refuted: bool) -> Option<ClauseId>
+    ensures { IfSome result (λ goal. verdict ≡ Some (Unsatisfiable goal)) }
+{
+    let Verdict::Unsatisfiable { goal } = verdict? else {
         return None;
-    }
-    match verdict? {
-        Verdict::Satisfiable => None,
-        Verdict::Unsatisfiable { goal } => Some(goal),
-    }
+    };
+    let easy = if empty { refuted } else { lines == 1 };
+    easy.then_some(goal)
 }
 
 /// The most clauses that are numbered: derived ones have numbers from 2^32 on.
 const MOST_CLAUSES: usize = u32::MAX as usize - 1;
+
+/// The least number of a derived clause.
+const FIRST_DERIVED: u64 = 1 << 32;
+
+/// So many goals are given up at a time.
+const MANY_EASY: usize = 64;

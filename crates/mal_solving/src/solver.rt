@@ -83,20 +83,9 @@ impl Solver {
         ensures taken { IsTaken self.old (with_literal lit (reopened self.old)) self.new }
         ensures beyond { limits.variables + 1 ≤ var_of lit → IsRefusal self.old self.new }
     {
-        if self.refused.is_some() {
-            return;
-        }
-        self.reopen();
-        let var = lit.var().number();
-        if var > LIMITS.variables {
-            self.refuse(Refusal::NoLiteral);
-            return;
-        }
-        if self.clause.push(lit).is_err() {
+        if self.admit(lit) && self.clause.push(lit).is_err() {
             self.refuse(Refusal::OutOfMemory);
-            return;
         }
-        self.variables = self.variables.max(var);
     }
 
     /// Ends the open clause: it stands after the others, in rising order and each literal once, or as a tautology.
@@ -118,20 +107,28 @@ impl Solver {
         ensures taken { IsTaken self.old (with_assumption lit (reopened self.old)) self.new }
         ensures beyond { limits.variables + 1 ≤ var_of lit → IsRefusal self.old self.new }
     {
+        if self.admit(lit) && self.assumptions.push(lit).is_err() {
+            self.refuse(Refusal::OutOfMemory);
+        }
+    }
+
+    /// Whether a literal is taken; its variable counts then. One of a variable above the limits is refused.
+    fn admit(&mut self, lit: Lit) -> bool
+        ensures taken { result ≡ true → self.new ≡ reopened self.old }
+        ensures refused { result ≡ false → IsRefusal self.old self.new }
+        ensures beyond { limits.variables + 1 ≤ var_of lit → result ≡ false }
+    {
         if self.refused.is_some() {
-            return;
+            return false;
         }
         self.reopen();
         let var = lit.var().number();
         if var > LIMITS.variables {
             self.refuse(Refusal::NoLiteral);
-            return;
-        }
-        if self.assumptions.push(lit).is_err() {
-            self.refuse(Refusal::OutOfMemory);
-            return;
+            return false;
         }
         self.variables = self.variables.max(var);
+        true
     }
 
     /// Refuses an input for good: what a caller was told is no input.

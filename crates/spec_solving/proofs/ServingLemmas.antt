@@ -1,6 +1,7 @@
 -- What a load and a slice do to a node and a log that serve clauses.
-use Rattle.std.proofs.Common.{◌≡◌, ℕ, ◌+◌, ◌*◌, ◌<◌, ◌≤◌, ◌^◌, Bool, true, false, cond, not, ◌&&◌, nat_lt, nat_le, List, [], ◌∷◌, ◌++◌, Contains, length, map, Option, Some, None, refl, sym, ◌∙◌, subst, inl, inr, ◌⊎◌, arith, length-append, append-nil}
-use Rattle.std.specs.Prelude.{All}
+use Rattle.std.proofs.Common.{◌≡◌, ℕ, ◌+◌, ◌*◌, ◌<◌, ◌≤◌, ◌^◌, Bool, true, false, cond, not, ◌&&◌, ◌||◌, nat_eq, nat_lt, nat_le, filter, List, [], ◌∷◌, ◌++◌, Contains, length, map, Option, Some, None, refl, sym, ap, ◌∙◌, subst, inl, inr, ◌⊎◌, arith, length-append, append-nil}
+use Rattle.std.specs.Prelude.{All, ◌==◌}
+use Rattle.std.specs.List.{list_any}
 use Rattle.std.proofs.lemmas.Bool.{and_from, and_parts, cases_lt, lt-ltb}
 use Rattle.std.proofs.lemmas.List.Elements.{All-nil, All-weaker, All-contains}
 use Rattle.mal_base.specs.NumberedClause.{NumberedClause, Line}
@@ -37,7 +38,7 @@ use Rattle.spec_proof.proofs.Growing.{log-takes-originals, numbered-within}
 use Rattle.spec_proof.proofs.Refuting.{trimmed-refutes}
 use Rattle.spec_proof.proofs.Contradicting.{contradicts-own, contradicts-members}
 use Rattle.spec_learn.specs.Dropping.{is_reason}
-use Rattle.spec_solving.specs.Holding.{Serves, IsRefuted, given_up_if}
+use Rattle.spec_solving.specs.Holding.{Serves, IsRefuted, all_given_up, may_be_given_up}
 
 -- a node that was given nothing
 pub fresh-serves : (profile : Profile) → Serves [] [] (fresh_with 0 profile)
@@ -116,9 +117,9 @@ given-up-rest f same id n = by_test (nat_le (2 ^ 32) id && not (is_reason n.trai
     by_test true = same n (forgetting (id ∷ []) n.clauses)
     by_test false = refl
 
-pub given-up-if-rest : {A : Type 0} (f : Node → A) → ((n : Node) (cs : List NumberedClause) → f (record n { clauses = cs }) ≡ f n) → (id : Option ℕ) (n : Node) → f (given_up_if id n) ≡ f n
-given-up-if-rest f same None n = refl
-given-up-if-rest f same (Some id) n = given-up-rest f same id n
+pub all-given-up-rest : {A : Type 0} (f : Node → A) → ((n : Node) (cs : List NumberedClause) → f (record n { clauses = cs }) ≡ f n) → (ids : List ℕ) (n : Node) → f (all_given_up ids n) ≡ f n
+all-given-up-rest f same [] n = refl
+all-given-up-rest f same (id ∷ ids) n = all-given-up-rest f same ids (given_up id n) ∙ given-up-rest f same id n
 
 give-one_up : (clauses : List (Option (List ℕ))) (log : List Line) (id : ℕ) (n : Node) → n.conflict ≡ None → n.verdict ≡ None → Serves clauses log n → Serves clauses log (given_up id n)
 give-one_up clauses log id n calm none h =
@@ -138,9 +139,40 @@ give-one_up clauses log id n calm none h =
       };
     }
 
-pub give-up-serves : (clauses : List (Option (List ℕ))) (log : List Line) (id : Option ℕ) (n : Node) → n.conflict ≡ None → n.verdict ≡ None → Serves clauses log n → Serves clauses log (given_up_if id n)
-give-up-serves clauses log None n calm none h = h
-give-up-serves clauses log (Some id) n calm none h = give-one_up clauses log id n calm none h
+pub give-up-serves : (clauses : List (Option (List ℕ))) (log : List Line) (ids : List ℕ) (n : Node) → n.conflict ≡ None → n.verdict ≡ None → Serves clauses log n → Serves clauses log (all_given_up ids n)
+give-up-serves clauses log [] n calm none h = h
+give-up-serves clauses log (id ∷ ids) n calm none h =
+    give-up-serves clauses log ids (given_up id n) (given-up-rest (λ (m : Node). m.conflict) (λ m cs. refl) id n ∙ calm) (given-up-rest (λ (m : Node). m.verdict) (λ m cs. refl) id n ∙ none) (give-one_up clauses log id n calm none h)
+
+forget-none : (cs : List NumberedClause) → forgetting [] cs ≡ cs
+forget-none [] = refl
+forget-none (c ∷ cs) = ap (λ (ds : List NumberedClause). c ∷ ds) (forget-none cs)
+
+forget-more : (id : ℕ) (ids : List ℕ) (cs : List NumberedClause) → forgetting ids (forgetting (id ∷ []) cs) ≡ forgetting (id ∷ ids) cs
+forget-more id ids [] = refl
+forget-more id ids (c ∷ cs) = by_test (nat_eq id c.id) (forget-more id ids cs)
+  where
+    also : (b : Bool) (xs ys : List NumberedClause) → xs ≡ ys → cond b (c ∷ xs) xs ≡ cond b (c ∷ ys) ys
+    also b xs ys e = ap (λ (ds : List NumberedClause). cond b (c ∷ ds) ds) e
+
+    by_test : (b : Bool) → forgetting ids (forgetting (id ∷ []) cs) ≡ forgetting (id ∷ ids) cs → forgetting ids (cond (not (b || false)) (c ∷ forgetting (id ∷ []) cs) (forgetting (id ∷ []) cs)) ≡ cond (not (b || list_any (λ i. i == c.id) ids)) (c ∷ forgetting (id ∷ ids) cs) (forgetting (id ∷ ids) cs)
+    by_test true e = e
+    by_test false e = also (not (list_any (λ i. i == c.id) ids)) (forgetting ids (forgetting (id ∷ []) cs)) (forgetting (id ∷ ids) cs) e
+
+-- it is the same to give up clauses one after another, and to forget at once those that can be given up
+pub given-up-at-once : (ids : List ℕ) (n : Node) → all_given_up ids n ≡ record n { clauses = forgetting (filter (may_be_given_up n.trail) ids) n.clauses }
+given-up-at-once [] n = ap (λ (cs : List NumberedClause). record n { clauses = cs }) (sym (forget-none n.clauses))
+given-up-at-once (id ∷ ids) n = by_test (may_be_given_up n.trail id) (given-up-at-once ids n) (given-up-at-once ids (record n { clauses = forgetting (id ∷ []) n.clauses }))
+  where
+    rest : List ℕ
+    rest = filter (may_be_given_up n.trail) ids
+
+    fewer : Node
+    fewer = record n { clauses = forgetting (id ∷ []) n.clauses }
+
+    by_test : (b : Bool) → all_given_up ids n ≡ record n { clauses = forgetting rest n.clauses } → all_given_up ids fewer ≡ record n { clauses = forgetting rest (forgetting (id ∷ []) n.clauses) } → all_given_up ids (cond {A = Node} b fewer n) ≡ record n { clauses = forgetting (cond b (id ∷ rest) rest) n.clauses }
+    by_test true stays goes = goes ∙ ap (λ (cs : List NumberedClause). record n { clauses = cs }) (forget-more id rest n.clauses)
+    by_test false stays goes = stays
 
 -- a log that covers what a node holds does so after a slice, with the slice's lines
 slice-covers : (clauses : List (Option (List ℕ))) (log : List Line) (n : Node) → Serves clauses log n → Covers clauses (log ++ (slice n).lines) n.index (slice n).node.serial (slice n).node.clauses

@@ -1,7 +1,8 @@
 -- A node and a log that serve clauses: the node holds all of them, and the log knows what else it holds.
-use Rattle.std.specs.Prelude.{◌≡◌, ℕ, ◌+◌, ◌≤◌, ◌^◌, true, List, [], ◌∷◌, ◌++◌, Contains, All, length, map, Option, Some, None}
+use Rattle.std.specs.Prelude.{◌≡◌, ℕ, ◌+◌, ◌≤◌, ◌^◌, ◌&&◌, Bool, not, nat_le, true, List, [], ◌∷◌, ◌++◌, Contains, All, length, map, Option, Some, None}
 use Rattle.mal_base.specs.Literals.{negated}
 use Rattle.mal_base.specs.NumberedClause.{Line}
+use Rattle.mal_base.specs.declared.trail_entry.TrailEntry.{TrailEntry}
 use Rattle.mal_base.specs.declared.verdict.Verdict.TheVariants.{Unsatisfiable}
 use Rattle.mal_revision.specs.Posted.{Posted, is_posted}
 use Rattle.spec_logic.specs.Refutation.{IsRefutation}
@@ -9,6 +10,7 @@ use Rattle.spec_node.specs.State.{Node}
 use Rattle.spec_node.specs.Load.{loaded, numbered}
 use Rattle.spec_node.specs.Sound.{IsSound}
 use Rattle.spec_node.specs.Laws.{HasModel, originals}
+use Rattle.spec_learn.specs.Dropping.{is_reason}
 use Rattle.spec_search.specs.Slice.{slice}
 use Rattle.spec_search.specs.Dropping.{given_up}
 use Rattle.spec_search.specs.Covering.{Covers}
@@ -29,16 +31,25 @@ LoadsKeepCovering =
     → is_posted r ≡ true → length clauses + length r.clauses + 1 ≤ 2 ^ 32 → Serves clauses log n
     → Serves (clauses ++ r.clauses) log (loaded r (1 + length clauses) n)
 
--- a node after giving up the clause of one number, if there is one
-abbrev pub given_up_if : Option ℕ → Node → Node
-given_up_if None n = n
-given_up_if (Some id) n = given_up id n
+-- a node after giving up the clauses of these numbers, one after another
+abbrev pub all_given_up : List ℕ → Node → Node
+all_given_up [] n = n
+all_given_up (id ∷ ids) n = all_given_up ids (given_up id n)
 
--- a node in which nothing waits goes on serving without one clause
+-- a node gave up some clauses
+pub record HasGivenUp (before after : Node) : Type 0 where
+  pub ids : List ℕ
+  pub is : after ≡ all_given_up ids before
+
+-- the clause of a number can be given up on a trail: it is derived and no entry's reason
+abbrev pub may_be_given_up : List TrailEntry → ℕ → Bool
+may_be_given_up trail id = nat_le (2 ^ 32) id && not (is_reason trail (record { id = id; lits = [] }))
+
+-- a node in which nothing waits goes on serving without some clauses
 abbrev pub GivingUpKeepsCovering : Type 0
 GivingUpKeepsCovering =
-    (clauses : List (Option (List ℕ))) (log : List Line) (id : Option ℕ) (n : Node)
-    → n.conflict ≡ None → n.verdict ≡ None → Serves clauses log n → Serves clauses log (given_up_if id n)
+    (clauses : List (Option (List ℕ))) (log : List Line) (ids : List ℕ) (n : Node)
+    → n.conflict ≡ None → n.verdict ≡ None → Serves clauses log n → Serves clauses log (all_given_up ids n)
 
 abbrev pub SlicesKeepCovering : Type 0
 SlicesKeepCovering =

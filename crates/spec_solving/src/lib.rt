@@ -15,7 +15,7 @@ pub fn solver_examples()
 {}
 
 /// A node and a log that serve clauses serve them and more after a load, and the same ones after a slice, whose lines go
-/// after those of the log, and after a derived clause was given up.
+/// after those of the log, and after derived clauses were given up.
 pub fn nodes_go_on_serving()
     ensures load { LoadsKeepCovering }
     ensures slice { SlicesKeepCovering }

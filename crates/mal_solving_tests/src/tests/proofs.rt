@@ -1,6 +1,6 @@
 //! Refutations, which the checker takes.
 
-use super::asking::{ask, give, solver};
+use super::asking::{ask, give, have_failed, solver};
 use mal_base::{Clause, ClauseList, Formula, Lines, Lit};
 use mal_check::Checker;
 use mal_lrat::Line;
@@ -79,6 +79,18 @@ fn is_refuted(alloc: Global, solver: &Solver, clauses: &[&[i32]], assumed: &[i32
     refute(alloc, solver.lines()?, clauses, assumed)
 }
 
+/// Whether a solver of these clauses, which are refuted, says so again under an assumption, which did not fail.
+fn is_refuted_again(
+    alloc: Global,
+    solver: &mut Solver,
+    clauses: &[&[i32]],
+    assumed: i32,
+) -> Option<bool> {
+    let stage = ask(solver, &[assumed], 10)?;
+    let spared = have_failed(solver, &[(assumed, false)])?;
+    Some(stage == Stage::Core && spared && is_refuted(alloc, solver, clauses, &[])?)
+}
+
 #[test]
 fn the_checker_takes_what_is_kept(rt: HostRuntime) {
     let alloc = rt.alloc();
@@ -88,6 +100,9 @@ fn the_checker_takes_what_is_kept(rt: HostRuntime) {
     assert!(rt; is_refuted(alloc, &solver, &clauses[..4], &[2, -4]) == Some(true));
     assert!(rt; second(&mut solver) == Some(Stage::Core));
     assert!(rt; is_refuted(alloc, &solver, &clauses, &[]) == Some(true));
+    assert!(rt; is_refuted_again(alloc, &mut solver, &clauses, 2) == Some(true));
+    assert!(rt; is_refuted_again(alloc, &mut solver, &clauses, -3) == Some(true));
+    assert!(rt; is_refuted_again(alloc, &mut solver, &clauses, 2) == Some(true));
     drop(solver);
 }
 
