@@ -74,7 +74,7 @@ feeds-read text posts is = is
 pub are-lawful : AreLawful
 are-lawful stops (Run workers) = reading-lawful _ _ _ scripts-read
 are-lawful stops Check = judging-lawful _ _ _ _ _ claims-read (λ text log out g. (g.0.claim, g.0.spelled, g.0.proved))
-are-lawful stops Replay = judging-lawful _ _ _ _ _ accounts-read (λ text log out g. (g.0, g.1, (g.2.events, g.2.legal, g.2.complete)))
+are-lawful stops Replay = judging-lawful _ _ _ _ _ accounts-read (λ text log out g. (g.0, g.1, (g.2.replied.events, g.2.replied.legal, g.2.replied.complete)))
 are-lawful stops (Generate seed jobs) = making-lawful _ _
 are-lawful stops (RunGenerated seed jobs workers) = making-lawful _ _
 are-lawful stops Json = reading-lawful _ _ _ descriptions-read

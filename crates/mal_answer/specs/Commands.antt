@@ -42,6 +42,7 @@ use Rattle.spec_cluster.specs.Visits.{all_of}
 use Rattle.spec_hall.specs.Driven.{IsDriven}
 use Rattle.spec_hall.specs.Events.{Event}
 use Rattle.spec_hall.specs.Own.{own}
+use Rattle.spec_job.specs.KeyedJob.{Key}
 use Rattle.spec_job.specs.Unknown.{is_fed}
 use Rattle.spec_live.specs.Live.{IsServing}
 use Rattle.spec_logic.specs.Logic.{IsUnsatisfiable}
@@ -50,7 +51,7 @@ use Rattle.spec_max.specs.Optimum as spec_max
 use Rattle.spec_run.specs.Replayed.{IsLegal, IsLacking, IsRefusedAt, IsReplied}
 use Rattle.spec_run.specs.Complete.{IsComplete, key_of_job, script_events}
 use Rattle.spec_run.specs.Losses.{LosesLate, is_loss}
-use Rattle.spec_run.specs.Run.{IsRun, job_replies}
+use Rattle.spec_run.specs.Run.{IsEvident, IsRun, job_replies}
 use Rattle.mal_base.specs.declared.line_fault.LineFault.{LineFault}
 use Rattle.spec_script.specs.FaultLines.{fault_line}
 use Rattle.spec_script.specs.Grammar.{Spells}
@@ -102,9 +103,10 @@ IsProved c = IsRefutation c.formula.clauses c.assumptions (bare c.lines)
 abbrev pub IsSound : Account → Type 0
 IsSound a = (events : List Event) × IsLegal a.history.workers a.script a.history.events events × IsComplete a.script events
 
--- the replies to an account
-abbrev pub AreReplies : Account → List ℕ → Type 0
-AreReplies a text = IsReplied a.history.workers a.script a.history.events text
+-- the replies to an account, whose history is legal and complete for its script: the answers of each job are evidence
+pub record AreReplies (a : Account) (text : List ℕ) : Type 0 where
+  pub replied : IsReplied a.history.workers a.script a.history.events text
+  pub evident : (k : Key) → IsEvident (own k replied.events)
 
 -- the line tells which event of an account is the first that is not allowed, or that the history is not complete
 abbrev pub TellsUnsound : Account → List ℕ → Type 0

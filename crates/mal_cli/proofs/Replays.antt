@@ -6,7 +6,7 @@ use Rattle.mal_account.specs.ReadResult.{fault_of}
 use Rattle.mal_cli.specs.Accounts.{IsReplayText, IsUnsound, TellsFault, TellsReplay}
 use Rattle.mal_answer.specs.Answers.{IsAnswerTo, NoLine}
 use Rattle.mal_answer.specs.Command.{Refuses, Denies}
-use Rattle.mal_answer.specs.Commands.{IsSound, TellsUnsound, accounts, replaying, nowhere}
+use Rattle.mal_answer.specs.Commands.{AreReplies, IsSound, TellsUnsound, accounts, replaying, nowhere}
 use Rattle.mal_answer.specs.declared.answer.Complaint.{Complaint}
 use Rattle.mal_answer.proofs.Complaints.{denied-as, read-once}
 use Rattle.mal_answer.proofs.Lawful.{are-lawful, fault-answered}
@@ -17,6 +17,7 @@ use Rattle.mal_account.specs.Grammar.{Spells}
 use Rattle.mal_account.proofs.ReadLemmas.{spelled-is-read}
 use Rattle.mal_base.specs.declared.replay_fault.ReplayFault.{ReplayFault}
 use Rattle.mal_base.specs.declared.replay_fault.ReplayFault.TheVariants.{NotLegal, NotComplete, OutOfMemory}
+use Rattle.mal_replay.specs.Replaying as replay
 use Rattle.spec_run.specs.Replayed.{IsReplay}
 use Rattle.spec_run.proofs.ReplayLemmas.{replay-is_decided}
 use Rattle.spec_run.specs.Run.{replies}
@@ -58,6 +59,10 @@ denied-line text line a s h =
 
 pub denied-as-text : (text : List ℕ) (a : Account) (c : Complaint) → Spells text a → IsUnsound a c → IsAnswerTo replaying text (Err c)
 denied-as-text text a c s h = denied-as (TellsUnsound a) (Refuses replaying text) (Denies replaying text) (λ line k. denied-line text line a s k) c h
+
+-- what is replied is what an account's command answers
+pub replayed-answers : (a : Account) (text : List ℕ) → replay.AreReplies a.history.workers a.script a.history.events text → AreReplies a text
+replayed-answers a text h = record { replied = h.replied; evident = h.evident }
 
 pub ruleset judge_lemmas = (replay-denied)
 

@@ -10,13 +10,14 @@ use Rattle.mal_history.specs.Written.{Written}
 use Rattle.mal_history.specs.declared.event.Event as written
 use Rattle.mal_pool.specs.Posts.{HasRun}
 use Rattle.mal_pool.proofs.Knowing.{posts-known}
-use Rattle.mal_replay.specs.Replaying.{HasReplayed}
+use Rattle.mal_replay.specs.Replaying.{AreReplies, HasReplayed}
 use Rattle.spec_hall.specs.Events.{Event}
 use Rattle.spec_hall.specs.Legal.{Allowed, Legal}
 use Rattle.spec_hall.specs.States.{leases, lives, states}
+use Rattle.spec_run.proofs.Evidence.{evident_by_law}
 use Rattle.spec_run.proofs.PostLemmas.{lines-posted, posted-lines, written-stays}
 use Rattle.spec_run.specs.PostLines.{HavePosts}
-use Rattle.spec_run.specs.Replayed.{IsFirstRefused, IsLacking, IsLegal, IsRefusedAt, IsReplied}
+use Rattle.spec_run.specs.Replayed.{IsFirstRefused, IsLacking, IsLegal, IsRefusedAt}
 use Rattle.spec_run.specs.Accounted.{AreWritten, event_by, posted_in}
 use Rattle.spec_run.proofs.PostingLemmas.{take-one}
 use Rattle.spec_run.specs.Complete.{IsComplete}
@@ -70,8 +71,10 @@ is-complete s h hall formed is legal answered home have =
 pub has-run : (s : Scripted) (hall : HallView) → Legal hall.workers hall.events → IsComplete s hall.events → (w : ℕ) × HasRun w s hall
 has-run s hall legal complete = (hall.workers, record { workers_are = refl; legal = legal; complete = complete; known = posts-known s hall.events (record { posts = complete.posts; stay = complete.stay }) })
 
-pub replied : (s : Scripted) (h : Written) (hall : HallView) (text : List ℕ) → HasReplayed s h (length h.events) hall → Legal hall.workers hall.events → IsComplete s hall.events → text ≡ replies s hall.events → IsReplied h.workers s h.events text
-replied s h hall text is legal complete told = record { events = hall.events; legal = all-legal s h hall is legal; complete = complete; text_is = told }
+pub replied : (s : Scripted) (h : Written) (hall : HallView) (text : List ℕ) → HasReplayed s h (length h.events) hall → Legal hall.workers hall.events → IsComplete s hall.events → text ≡ replies s hall.events → AreReplies h.workers s h.events text
+replied s h hall text is legal complete told =
+    let all = all-legal s h hall is legal in
+    record { replied = record { events = hall.events; legal = all; complete = complete; text_is = told }; evident = evident_by_law h.workers hall.events all.legal }
 
 -- what a test says that failed
 pub not-passed : {P : Type 0} (b : Bool) → IsTrue b ↔ P → b ≡ false → P → ⊥

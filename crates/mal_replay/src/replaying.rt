@@ -1,9 +1,9 @@
 //! Replaying a history.
 
-ghost use Rattle.std.specs.Prelude.{◌≡◌, ℕ, ◌+◌, ◌<◌, Ok, Err, length, IfOk, IfErr};
+ghost use Rattle.std.specs.Prelude.{◌≡◌, ℕ, ◌+◌, ◌<◌, Err, length, IfOk, IfErr};
 ghost use Rattle.mal_history.specs.Written.{line_at};
 ghost use Rattle.mal_pool.specs.Posts.{HasRun};
-ghost use Rattle.mal_replay.specs.Replaying.{HasReplayed};
+ghost use Rattle.mal_replay.specs.Replaying.{AreReplies, HasReplayed};
 ghost use Rattle.spec_run.specs.{Replayed.{IsReplay}, Run.{replies}};
 
 use crate::contents::posted_in;
@@ -21,16 +21,15 @@ use std::thread::Threads;
 /// `NotLegal` names the line of the first event that is not allowed, and `NotComplete` tells that each event is
 /// allowed, but that the history does not post what the script says, or that a revision is not answered or a lease is
 /// out. Each revision is the script's. The slices that the history says were run are run again, on this thread; the
-/// replies are made by as many threads as the run had workers, where it had more than one.
+/// replies are made by as many threads as the run had workers, where it had more than one. What they tell is evident, as
+/// of a run: models satisfy, and proofs refute.
 pub fn replay<R: Threads + Sync>(
     rt: &R,
     alloc: Global,
     script: &Script,
     history: &History,
 ) -> Result<Vec<u8>, ReplayFault>
-    ensures ok { IfOk result
-        (λ text. IsReplay history.now.workers script.now history.now.events (line_at history.now.lines)
-        (Ok text.items)) }
+    ensures ok { IfOk result (λ text. AreReplies history.now.workers script.now history.now.events text.items) }
     ensures err { IfErr result
         (λ fault. IsReplay history.now.workers script.now history.now.events (line_at history.now.lines) (Err fault)) }
 {
@@ -49,9 +48,7 @@ fn answer<R: Threads + Sync>(
     hall: &Hall,
 ) -> Result<Vec<u8>, ReplayFault>
     requires { HasReplayed script.now history.now (length history.now.events) hall.now }
-    ensures ok { IfOk result
-        (λ text. IsReplay history.now.workers script.now history.now.events (line_at history.now.lines)
-        (Ok text.items)) }
+    ensures ok { IfOk result (λ text. AreReplies history.now.workers script.now history.now.events text.items) }
     ensures err { IfErr result
         (λ fault. IsReplay history.now.workers script.now history.now.events (line_at history.now.lines) (Err fault)) }
 {

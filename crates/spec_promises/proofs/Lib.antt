@@ -14,4 +14,13 @@ mod Used
 mod Bounded
 mod Clustered
 mod Searches
+mod Taken
+mod Hints
+mod Readable
+mod Served
+mod Refuted
+mod Halls
+mod Questions
+mod Waiting
+mod Volumes
 mod Examples

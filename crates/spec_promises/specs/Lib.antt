@@ -7,4 +7,6 @@ pub mod Steps
 pub mod Keys
 pub mod Bounded
 pub mod Decided
+pub mod Taken
+pub mod Waiting
 pub mod Examples

@@ -2,7 +2,7 @@
 //! is the same in two runs. Definitions, and the laws about them as the contracts of functions without a body.
 #![tactic(auto)]
 
-ghost use Rattle.spec_promises.specs.{Bounded.{JobIsBounded, RunIsBounded}, Decided.{ClusterIsDecided, CoreIsDecided, MaxIsDecided}, Examples.{HasCounts, HasHeadings, HasKeysInJson}, Found.{MinimalIsTold, OptimumIsTold}, Keys.{KeysAreTested, ReadIsKeyed}, Parcels.{ParcelIsTold}, Replied.{ClusterRepliesToAll, ReplayRepliesToAll, RunRepliesToAll}, Singles.{SingleReplaysAreAlike, SingleRunsAreAlike, SinglesRunAlike}, Steps.{HasFirstSteps, StepFaultIsFirst}, Tells.{RepliesAreTold, ReplyIsTold}};
+ghost use Rattle.spec_promises.specs.{Bounded.{JobIsBounded, RunIsBounded}, Decided.{ClusterIsDecided, CoreIsDecided, MaxIsDecided}, Examples.{HasCounts, HasHeadings, HasKeysInJson, HasTaken}, Found.{MinimalIsTold, OptimumIsTold}, Keys.{KeysAreTested, ReadIsKeyed}, Parcels.{ParcelIsTold}, Replied.{ClusterRepliesToAll, ReplayRepliesToAll, RunRepliesToAll}, Singles.{SingleReplaysAreAlike, SingleRunsAreAlike, SinglesRunAlike}, Steps.{HasFirstSteps, StepFaultIsFirst}, Taken.{CoreIsTaken, LegalIsTaken, MaxIsTaken, RefutedIsTaken, ReplayIsTaken, RunIsTaken}, Tells.{RepliesAreTold, ReplyIsTold}, Waiting.{FirstHaveVolumes, NobodyStarves}};
 
 /// A text of replies tells them: no two replies, and no two lists of replies, are written alike, where 64 bits hold their
 /// numbers and their literals are literals.
@@ -71,3 +71,29 @@ pub fn runs_are_decided()
     ensures minimal { CoreIsDecided }
     ensures cluster { ClusterIsDecided }
 {}
+
+/// The command `check` takes each refutation that is written: the claim of the formula under the failed assumptions of a
+/// line `k`, written after an `a`, with the lines `l` as they stand, is verified. So it is with what a hall, a run and a
+/// history that is replayed tell of a job's revision, where the formula is that of its revisions up to this one, and with
+/// what is written of an optimum and of a minimal core.
+pub fn refutations_are_taken()
+    ensures claim { RefutedIsTaken }
+    ensures hall { LegalIsTaken }
+    ensures run { RunIsTaken }
+    ensures replay { ReplayIsTaken }
+    ensures optimum { MaxIsTaken }
+    ensures minimal { CoreIsTaken }
+    ensures examples { HasTaken }
+{
+    spec_lrat::written_is_read();
+    spec_hall::legal_is_lawful();
+}
+
+/// Nobody starves: of two nodes that may start all the while, neither gets two starts ahead of the other that it did not
+/// have. Whenever nodes are started, the first live jobs by opening have a volume, as many as there are workers.
+pub fn nobody_starves()
+    ensures starts { NobodyStarves }
+    ensures volumes { FirstHaveVolumes }
+{
+    spec_hall::first_startable_is_picked();
+}
