@@ -42,8 +42,8 @@ impl Levels {
         self.flags.fit(levels)
     }
 
-    /// The glue of literals: how many different levels they have on the trail, on each level of which there is room. A
-    /// variable that is not on the trail counts as of level 0. Takes no memory.
+    /// The glue of literals: how many different levels they have on the trail, for whose levels there is room. A variable
+    /// that is not on the trail counts as of level 0. Takes no memory.
     pub fn glue(&mut self, trail: &Trail, lits: &[Lit]) -> usize
         requires some { 1 ≤ self.old }
         requires room { All (λ e. e.level < self.old) trail.now.entries }

@@ -4,10 +4,10 @@ ghost use Rattle.std.specs.Prelude.{◌≡◌, ◌≤◌, IfOk, IfErr, Ok};
 ghost use Rattle.mal_freeze.specs.Reading.{image_in};
 ghost use Rattle.mal_node_tests.specs.Going.{HasRun};
 
-use mal_base::Lines;
+use mal_base::{ClauseId, Lines, Var};
 use mal_cdcl::Node;
 use mal_freeze::{freeze, thaw_known};
-use mal_learn::Scratch;
+use mal_learn::{Scratch, Way};
 use mal_revision::Revision;
 use mal_trail::Listed;
 use std::alloc::{AllocError, Global};
@@ -82,6 +82,29 @@ impl<E: Listed> Going<E> {
             node: woken?,
             slices: self.slices,
         })
+    }
+
+    /// The clauses resolved with on the way of the conflict that waits, and which of three variables were seen. None where
+    /// no conflict waits, or where there are other variables.
+    pub fn way(&self) -> Result<Option<(Vec<ClauseId>, [bool; 3])>, AllocError> {
+        if self.node.variables() != 3 {
+            return Ok(None);
+        }
+        match self.node.conflict() {
+            None => Ok(None),
+            Some(id) => {
+                let mut way = Way::new(self.alloc);
+                way.fit(3)?;
+                way.follow(self.node.trail(), self.node.engine(), id);
+                let seen = [
+                    way.has_seen(Var::of(1)),
+                    way.has_seen(Var::of(2)),
+                    way.has_seen(Var::of(3)),
+                ];
+                let resolved = Vec::from_slice(self.alloc, way.resolved())?;
+                Ok(Some((resolved, seen)))
+            }
+        }
     }
 
     /// Whether the search has ended.
